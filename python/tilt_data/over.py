@@ -5,18 +5,18 @@ import dataclasses
 import math
 
 from .forms import fault_of
-from .grammar import Statement, statements_of
+from .grammar import statements_of
 from .rows import RowArrays
 
 
 @dataclasses.dataclass(frozen=True)
 class Over:
-    """The `over (start, end]` of a query's output: its ticks, the bytes of the query between the parentheses, and the grid that both ends
+    """The `over (start, end]` of a query's output: its ticks, the bytes of the query that each of both ends has, and the grid that they
     are on. `common` is a number of ticks by which the whole query can be moved in time, None if a definition has an `over` of its own."""
 
     start: int
     end: int
-    place: tuple[int, int]
+    places: tuple[tuple[int, int], tuple[int, int]]
     grid: tuple[int, int]
     common: int | None
 
@@ -33,22 +33,22 @@ class Over:
     def moved(self, query: str, start: int, end: int) -> str:
         """The query with another range."""
         text = query.encode()
-        return (text[: self.place[0]] + f"{start}, {end}".encode() + text[self.place[1] :]).decode()
+        (first, after), (last, rest) = self.places
+        return (text[:first] + b"%d" % start + text[after:last] + b"%d" % end + text[rest:]).decode()
 
 
 def over_of(query: str) -> Over | None:
     """The `over` of a query; None if the program rejects the query."""
-    if fault_of(query.encode()) is not None:
-        return None
+    return None if fault_of(query.encode()) is not None else over_in(query)
+
+
+def over_in(query: str) -> Over:
+    """The `over` of a query that the program takes."""
     *others, emit = statements_of(query.encode())
     (start, first), (end, last) = emit.bounds
     is_free = not any(statement.bounds for statement in others)
     common = math.lcm(*(statement.period[0] for statement in [*others, emit])) if is_free else None
-    return Over(start, end, (first.begin, last.end), grid_of(emit), common)
-
-
-def grid_of(statement: Statement) -> tuple[int, int]:
-    return statement.period[0], statement.offset[0]
+    return Over(start, end, ((first.begin, first.end), (last.begin, last.end)), (emit.period[0], emit.offset[0]), common)
 
 
 @dataclasses.dataclass

@@ -11,8 +11,9 @@ from typing import IO, Callable, Iterable
 
 from .errors import Refused
 from .files import HEADER
-from .grammar import MOST_TOKENS, statements_of
-from .tokens import Token, tokens_of
+from .grammar import MOST_TOKENS
+from .over import Over, over_in
+from .tokens import tokens_of
 
 LINE = (",".join(HEADER) + "\n").encode()
 # No line of an output has more bytes.
@@ -29,36 +30,32 @@ class Part:
 
 
 @dataclasses.dataclass(frozen=True)
-class Domain:
-    """The output domain (start, end] of a query with the period of its grid, 1 where it has none; the text, and its two bounds in it. No
-    part may end below `least`."""
+class Domain(Over):
+    """The output domain (start, end] of a query, and its text. No part may end below `least`."""
 
-    text: bytes
-    bounds: tuple[Token, Token]
-    start: int
-    end: int
-    period: int
+    whole: str
     least: int
 
     @staticmethod
     def of(text: str) -> Domain:
         """The domain of a query that the program takes."""
-        query = text.encode()
-        emit = statements_of(query)[-1]
-        (start, first), (end, second) = emit.bounds
+        over = over_in(text)
         # A minus before a bound is a token more: a statement that has all that it may have can't take it.
-        tokens = tokens_of(query)
+        tokens = tokens_of(text.encode())
         begin = max((at for at, token in enumerate(tokens[:-1], 1) if token.kind == ";"), default=0)
-        full = len(tokens) - begin == MOST_TOKENS and end >= 0
-        period = emit.period[0]
-        least = start + period
-        return Domain(query, (first, second), start, end, period, max(least, least - least // period * period) if full else least)
+        full = len(tokens) - begin == MOST_TOKENS and over.end >= 0
+        period = over.grid[0]
+        least = over.start + period
+        return Domain(**vars(over), whole=text, least=max(least, least - least // period * period) if full else least)
+
+    @property
+    def period(self) -> int:
+        """The period of its grid, 1 if there is none."""
+        return self.grid[0]
 
     def query(self, start: int, end: int) -> str:
         """The text of the query with another domain, whose bounds are grid points."""
-        first, second = self.bounds
-        before, between, after = self.text[: first.begin], self.text[first.end : second.begin], self.text[second.end :]
-        return b"".join([before, str(start).encode(), between, str(end).encode(), after]).decode()
+        return self.moved(self.whole, start, end)
 
     def cut(self, tick: int) -> int | None:
         """The least tick, not below this one, at which the domain may be cut; None where there is none."""

@@ -8,6 +8,7 @@ import functools
 import hashlib
 import os
 import time
+from typing import Callable, TypeVar
 
 from . import blocks, parts
 from .blocks import Segment, Stamp, stamp_of
@@ -19,6 +20,7 @@ from .why import Refusal, refusal_of
 
 # The header with a byte order mark before it and CR LF after it. What is only empty lines before the first row is longer.
 LONGEST_HEADER = len(blocks.MARK) + len(parts.LINE) + 1
+T = TypeVar("T")
 
 
 class Failed(Exception):
@@ -76,7 +78,7 @@ class Made:
     """How a task went: its seconds and those of the program in it, the rows and bytes that the program got. If something was rejected: the
     line, the status and the place."""
 
-    seconds: float = 0.0
+    seconds: float = dataclasses.field(default=0.0, compare=False)
     program_seconds: float = 0.0
     rows: int = 0
     size: int = 0
@@ -122,29 +124,38 @@ def digest_of(path: str, stamp: Stamp) -> str:
         return hashlib.file_digest(file, "sha256").hexdigest()
 
 
-def make_indexes(indexing: Indexing, processes: Processes = UNSTOPPED) -> Made:
-    begun = time.perf_counter()
+def task(make: Callable[[T, Processes], Made]) -> Callable[..., Made]:
+    """A function that carries out a task, with the seconds that it took. A Refused is in what it gives: the task isn't started again."""
+
+    @functools.wraps(make)
+    def carried_out(argument: T, processes: Processes = UNSTOPPED) -> Made:
+        begun = time.perf_counter()
+        try:
+            made = make(argument, processes)
+        except Refused as refused:
+            return Made(line=str(refused), status=1)
+        return dataclasses.replace(made, seconds=time.perf_counter() - begun)
+
+    return carried_out
+
+
+@task
+def make_indexes(indexing: Indexing, processes: Processes) -> Made:
     rows = size = 0
     for path in indexing.paths:
-        try:
-            made = blocks.found_index(path, indexing.folder) or blocks.make_index(path, indexing.folder, processes.check)
-        except Refused as refused:
-            return Made(line=str(refused), status=1)
+        made = blocks.found_index(path, indexing.folder) or blocks.make_index(path, indexing.folder, processes.check)
         rows, size = rows + made.rows, size + made.stamp[0]
-    return Made(time.perf_counter() - begun, 0.0, rows, size)
+    return Made(rows=rows, size=size)
 
 
-def make_part(task: Task, processes: Processes = UNSTOPPED) -> Made:
+@task
+def make_part(task: Task, processes: Processes) -> Made:
     """Runs the program on the rows that the part needs. A part that is there isn't made again."""
-    begun = time.perf_counter()
     if os.path.exists(task.file):
         return Made()
+    check_program(task)
     with scratch() as folder:
-        try:
-            check_program(task)
-            words, rows, size = laid_out(task, folder)
-        except Refused as refused:
-            return Made(line=str(refused), status=1)
+        words, rows, size = laid_out(task, folder)
         started = time.perf_counter()
         try:
             with placed(task.file) as out:
@@ -152,46 +163,37 @@ def make_part(task: Task, processes: Processes = UNSTOPPED) -> Made:
                 check_unchanged(task)
         except Rejected as rejected:
             return rejected_part(task, words, rejected)
-        except Refused as refused:
-            return Made(line=str(refused), status=1)
-        spent = time.perf_counter() - started
-    return Made(time.perf_counter() - begun, spent, rows, size)
+        return Made(0.0, time.perf_counter() - started, rows, size)
 
 
-def make_keys(keys: Keys, processes: Processes = UNSTOPPED) -> Made:
+@task
+def make_keys(keys: Keys, processes: Processes) -> Made:
     """Makes the outputs of small keys, up to the first that doesn't succeed at once: `of_keys` has those that were made. The caller makes
     the others by a task for each, so that what happens to them is counted and reported for each. An output is its only part. All are
     brought to the disk together, and then take their names."""
-    begun = time.perf_counter()
     made: list[Made] = []
     with contextlib.suppress(OSError, Refused):
         made = made_together(keys, processes)
-    return Made(time.perf_counter() - begun, sum(one.program_seconds for one in made), of_keys=tuple((one, Made()) for one in made))
+    return Made(0.0, sum(one.program_seconds for one in made), of_keys=tuple((one, Made()) for one in made))
 
 
 def made_together(keys: Keys, processes: Processes) -> list[Made]:
     made: list[Made] = []
     check_program(keys.keys[0][0])
     with scratch() as folder, Together() as together:
-        put_query(keys.keys[0][0], folder)
         for task, joining in keys.keys:
             try:
+                words, rows, size = laid_out(task, folder)
                 out = together.begin(among_parts(joining), joining.file)
-                made.append(make_key(task, out, folder, processes))
+                started = time.perf_counter()
+                run(processes, words, out)
+                check_unchanged(task)
+                made.append(Made(0.0, time.perf_counter() - started, rows, size))
             except (Failed, Rejected, Refused, OSError):
                 together.keep(len(made))
                 break
         together.commit()
     return made
-
-
-def make_key(task: Task, out: int, folder: str, processes: Processes) -> Made:
-    """Runs the program on the only part of a key, with its output to a descriptor. The folder has the query."""
-    words, rows, size = with_rows(task, folder)
-    started = time.perf_counter()
-    run(processes, words, out)
-    check_unchanged(task)
-    return Made(0.0, time.perf_counter() - started, rows, size)
 
 
 def check_program(task: Task) -> None:
@@ -203,27 +205,12 @@ def check_program(task: Task) -> None:
 
 def laid_out(task: Task, folder: str) -> tuple[list[str], int, int]:
     """Writes the query and the rows of each input to a folder: the arguments of `run`, and how many rows and bytes they are."""
-    put_query(task, folder)
-    return with_rows(task, folder)
-
-
-def put_query(task: Task, folder: str) -> None:
-    with open(query_path(folder), "w", encoding="utf-8", newline="") as file:
+    query = os.path.join(folder, "query.tilt")
+    with open(query, "w", encoding="utf-8", newline="") as file:
         file.write(task.query)
-
-
-def query_path(folder: str) -> str:
-    return os.path.join(folder, "query.tilt")
-
-
-def with_rows(task: Task, folder: str) -> tuple[list[str], int, int]:
-    """The same for a folder that has the query."""
-    words, rows, size = [query_path(folder)], 0, 0
-    for stretch in task.inputs:
-        path, some, its_size = given(stretch, folder)
-        words.append(f"{stretch.name}={path}")
-        rows, size = rows + some, size + its_size
-    return words, rows, size
+    files = {stretch.name: given(stretch, folder) for stretch in task.inputs}
+    words = [query, *(f"{name}={path}" for name, (path, _, _) in files.items())]
+    return words, sum(rows for _, rows, _ in files.values()), sum(size for _, _, size in files.values())
 
 
 def given(stretch: Stretch, folder: str) -> tuple[str, int, int]:
@@ -296,21 +283,14 @@ def place_in(stretch: Stretch, line: int) -> tuple[str, int]:
     return stretch.name, line
 
 
-def make_whole(joining: Joining, processes: Processes = UNSTOPPED) -> Made:
-    begun = time.perf_counter()
-    new = beside(joining)
-    try:
-        with placed(new) as out:
-            parts.join(list(joining.parts), out, processes.check)
-        os.replace(new, joining.file)
-    except Refused as refused:
-        return Made(line=str(refused), status=1)
-    return Made(time.perf_counter() - begun)
-
-
-def beside(joining: Joining) -> str:
-    """Where a whole is written before it is moved to its place: among the parts of its key, where only its call writes."""
-    return os.path.join(os.path.dirname(joining.parts[0][1]), "whole.csv")
+@task
+def make_whole(joining: Joining, processes: Processes) -> Made:
+    # Among the parts of its key, where only its call writes.
+    new = os.path.join(os.path.dirname(joining.parts[0][1]), "whole.csv")
+    with placed(new) as out:
+        parts.join(list(joining.parts), out, processes.check)
+    os.replace(new, joining.file)
+    return Made()
 
 
 def among_parts(joining: Joining) -> str:
