@@ -4,6 +4,7 @@ Values are whole numbers for the program: a float is taken by the shortest decim
 are those of pandas, in nanoseconds; without a zone they are UTC."""
 from __future__ import annotations
 
+import contextlib
 import dataclasses
 import functools
 import itertools
@@ -13,7 +14,7 @@ import re
 import sys
 import tempfile
 import warnings
-from typing import TYPE_CHECKING, Any, Callable, Iterable, Iterator, Literal, Mapping, Union, Unpack
+from typing import TYPE_CHECKING, Any, Callable, Iterable, Iterator, Literal, Mapping, Union, Unpack, get_args
 
 from . import sessions
 from .clock import TIMES, Clock, duration_of, duration_text, moment_text
@@ -43,19 +44,19 @@ KeyOrigin = Literal["shared", "own"]
 class RunOptions(Options, total=False):
     """The arguments of `run` besides the query and the data."""
 
+    over: Range | None
+    nulls: bool
+    key_origin: KeyOrigin
     by: str | None
     merge: bool
     index: Index
     exact: bool
-    over: Range | None
-    nulls: bool
-    key_origin: KeyOrigin
     inputs: Mapping[str, Any] | None
     convention: Convention | None
 
 
 # Those that aren't of a convention.
-ARGUMENTS = ("over", "nulls", "key_origin", "by", "merge", "index", "exact", "inputs", "convention")
+ARGUMENTS = tuple(name for name in RunOptions.__annotations__ if name not in Options.__annotations__)
 # Takes the rows of an input.
 Take = Callable[[str, Iterable[RowArrays]], None]
 # The moments that pandas has.
@@ -95,34 +96,15 @@ class Query:
             file.write(self.text if text is None else text)
         return path
 
-    def run(
-        self,
-        data: Any = None,
-        *,
-        by: str | None = None,
-        merge: bool = False,
-        index: Index = "interval",
-        exact: bool = False,
-        over: Range | None = None,
-        nulls: bool = False,
-        key_origin: KeyOrigin = "shared",
-        convention: Convention | None = None,
-        inputs: Mapping[str, Any] | None = None,
-        **options: Unpack[Options],
-    ) -> pandas.DataFrame:
+    def run(self, data: Any = None, **options: Unpack[RunOptions]) -> pandas.DataFrame:
         """What `tilt run` prints, as a DataFrame with the column `value`; see `run`."""
-        convention = convention_of(convention, options, ARGUMENTS)
-        check_one_of("index", index, ("interval", "start", "end"))
-        check_one_of("over", over, ("query", "data", None))
-        check_one_of("key_origin", key_origin, ("shared", "own"))
-        check_key_origin(key_origin, by, convention)
-        check_flag("merge", merge)
-        check_flag("exact", exact)
-        check_flag("nulls", nulls)
-        look = Look(merge, index, exact, nulls)
-        named = dict(inputs or {})
+        given: dict[str, Any] = dict(options)
+        by, named = given.pop("by", None), dict(given.pop("inputs", None) or {})
+        look = Look(**{field.name: given.pop(field.name) for field in dataclasses.fields(Look) if field.name in given})
+        convention = convention_of(given.pop("convention", None), given, ARGUMENTS)
+        check_key_origin(look.key_origin, by, convention)
         if by is not None:
-            return self.by_key(data, by, look, over, key_origin, convention, named)
+            return self.by_key(data, by, look, convention, named)
         named = {**frame_inputs(data, self.inputs), **named}
         with tempfile.TemporaryDirectory(prefix="tilt-data-") as folder:
             taken = Inputs(folder, over_of(self.text))
@@ -130,7 +112,7 @@ class Query:
             taken.files |= parted(named)[0]
             if len(taken.extents) == len(taken.files):
                 self.warn_of_scale(convention, scale)
-            moved = self.over_in(taken, over)
+            moved = self.over_in(taken, look.over)
             binds = [f"{name}={taken.files[name]}" for name in self.inputs]
             rows = self.rows_of_run(folder, moved, binds)
         own = taken.over if moved is None else over_of(moved)
@@ -142,13 +124,9 @@ class Query:
         if taken.over is None:
             return None
         if over == "data":
-            edges = edges_of(taken.all_extents())
-            if edges is None:
-                raise Refused("over='data': the inputs have no readings, and no span")
-            return taken.over.moved(self.text, *taken.over.around(*edges))
-        note = None if over == "query" else cut_note(taken.over, taken.extents)
-        if note is not None:
-            warnings.warn(note, stacklevel=level_of_caller())
+            return taken.over.moved(self.text, *taken.over.around(*needed_edges(taken.all_extents(), "over='data': ")))
+        if over is None:
+            warn(cut_note(taken.over, taken.extents))
         return None
 
     def rows_of_run(self, folder: str, text: str | None, binds: list[str]) -> RowArrays:
@@ -160,9 +138,7 @@ class Query:
             raise error.renamed(path, self.name) from None
         return output_of(out)
 
-    def by_key(
-        self, data: Any, by: str, look: Look, over: Range | None, origin: KeyOrigin, convention: Convention, named: dict[str, Any]
-    ) -> pandas.DataFrame:
+    def by_key(self, data: Any, by: str, look: Look, convention: Convention, named: dict[str, Any]) -> pandas.DataFrame:
         """The output for each key of a column; the keys are the first level of the index."""
         keys = keys_of(data, by)
         parts = {name: data[name] for name in self.inputs if name in data.columns and name != by}
@@ -173,34 +149,25 @@ class Query:
         # All keys have the scale and the edges of the whole, and its clock unless each has its own.
         scales = {name: convention.scale_of(name) or scale for name in self.inputs} if isinstance(convention.scale, Mapping) else scale
         shared: dict[str, Any] = {"tick": duration_text(clock.tick), "closed": clock.closed, "scale": scales}
-        if origin == "shared":
+        if look.key_origin == "shared":
             shared["origin"] = moment_text(clock.origin, 9)
         convention = convention_of(convention, shared)
         if keys is not None and not named and list(parts) == self.inputs and parts:
-            try:
+            # What is rejected is found in the order of the keys.
+            with contextlib.suppress(Alone, Refused):
                 shape = Shape(clock, zone_in(data.index), int(convention.output_scale or scale))
-                return self.by_batches(data, keys, look, over, origin, convention, shape)
-            except (Alone, Refused):
-                # What is rejected is found in the order of the keys.
-                pass
-        return self.by_runs(data, by, look, over, convention, named)
+                return self.by_batches(data, keys, look, convention, shape)
+        return self.by_runs(data, by, look, convention, named)
 
-    def by_runs(
-        self, data: Any, by: str, look: Look, over: Range | None, convention: Convention, named: dict[str, Any]
-    ) -> pandas.DataFrame:
+    def by_runs(self, data: Any, by: str, look: Look, convention: Convention, named: dict[str, Any]) -> pandas.DataFrame:
         """One run for each key, one after another."""
         import pandas
 
-        def output(part: Any) -> pandas.DataFrame:
-            own = part.drop(columns=by)
-            return self.run(own, **dataclasses.asdict(look), over=over, convention=convention, inputs=named)
-
-        found = {key: output(part) for key, part in data.groupby(by, sort=True, observed=True)}
+        options: Any = {**dataclasses.asdict(look), "key_origin": "shared", "convention": convention, "inputs": named}
+        found = {key: self.run(part.drop(columns=by), **options) for key, part in data.groupby(by, sort=True, observed=True)}
         return pandas.concat(found, names=[by]) if found else pandas.DataFrame({"value": []})
 
-    def by_batches(
-        self, data: Any, keys: Keys, look: Look, over: Range | None, origin: KeyOrigin, convention: Convention, shape: Shape
-    ) -> pandas.DataFrame:
+    def by_batches(self, data: Any, keys: Keys, look: Look, convention: Convention, shape: Shape) -> pandas.DataFrame:
         """Runs over many keys at a time, as `keys.py` says it."""
         own, clock = over_of(self.text), shape.clock
         if own is None or own.common is None or not len(keys.keys):
@@ -214,17 +181,16 @@ class Query:
             {name: self.column(name, data[name] if order is None else data[name].iloc[order], convention, clock) for name in self.inputs},
             bounds,
         )
-        if origin == "own":
+        if look.key_origin == "own":
             clocks = [dataclasses.replace(clock, origin=midnight(first, shape.zone)) for first in readings.firsts()]
             if any((one.origin - clock.origin) % clock.tick for one in clocks):
                 raise Alone
         reach = explained.back + APART, explained.ahead + APART
         with tempfile.TemporaryDirectory(prefix="tilt-data-") as folder:
-            batches = Batches(functools.partial(self.run_over, folder, own), reach, own, over == "data", {})
+            batches = Batches(functools.partial(self.run_over, folder, own), reach, own, look.over == "data", {})
             outputs = [look.kept(rows, one.start, one.end) for one, rows in batches.outputs(readings, clocks)]
-        note = None if over is not None else cut_note(own, batches.extents)
-        if note is not None:
-            warnings.warn(note, stacklevel=level_of_caller())
+        if look.over is None:
+            warn(cut_note(own, batches.extents))
         shifts = [(one.origin - clock.origin) // clock.tick for one in clocks]
         return shape.keyed(keys, [rows.moved(shift) for rows, shift in zip(outputs, shifts)], look)
 
@@ -244,8 +210,7 @@ class Query:
     def warn_of_scale(self, convention: Convention, scale: int) -> None:
         """Warns if the data have a scale that the caller didn't give, and it changes what the query means."""
         notes = scale_notes(self.text, scale, convention.output_scale) if convention.scale == "auto" and scale != 1 else []
-        if notes:
-            warnings.warn(f"values times {scale}: {'; '.join(notes)}; scale={scale} says that this is meant", stacklevel=level_of_caller())
+        warn(f"values times {scale}: {'; '.join(notes)}; scale={scale} says that this is meant" if notes else None)
 
     def live(self, convention: Convention | None = None, **options: Unpack[Options]) -> Live:
         """A run by sessions, which takes rows as they come."""
@@ -295,13 +260,24 @@ def span(
     for name, file in parted(there)[0].items():
         with reading(file) as opened:
             note(name, rows_in(file, opened))
-    edges = edges_of(list(extents.values()))
-    if edges is None:
-        raise Refused("the inputs have no readings, and no span")
-    return edges
+    return needed_edges(list(extents.values()))
 
 
 # Inputs
+
+
+def needed_edges(extents: list[Extent], option: str = "") -> tuple[int, int]:
+    """The ticks over which inputs have rows."""
+    edges = edges_of(extents)
+    if edges is None:
+        raise Refused(f"{option}the inputs have no readings, and no span")
+    return edges
+
+
+def warn(text: str | None) -> None:
+    """A warning at the line that called this package."""
+    if text is not None:
+        warnings.warn(text, stacklevel=level_of_caller())
 
 
 def level_of_caller() -> int:
@@ -404,12 +380,21 @@ def auto_scale(series: Mapping[str, Any]) -> int:
 @dataclasses.dataclass(frozen=True)
 class Look:
     """What the caller asks of an output: whether equal neighbours are joined, which times are its index (`interval`, `start` or `end`),
-    whether values are Decimals, and whether gaps have rows."""
+    whether values are Decimals, whether gaps have rows, over which ticks it is, and the origin of each key."""
 
     merge: bool = False
-    index: str = "interval"
+    index: Index = "interval"
     exact: bool = False
     nulls: bool = False
+    over: Range | None = None
+    key_origin: KeyOrigin = "shared"
+
+    def __post_init__(self) -> None:
+        check_one_of("index", self.index, get_args(Index))
+        check_one_of("over", self.over, (*get_args(Range), None))
+        check_one_of("key_origin", self.key_origin, get_args(KeyOrigin))
+        for name in ("merge", "exact", "nulls"):
+            check_flag(name, getattr(self, name))
 
     def kept(self, rows: RowArrays, start: int, end: int) -> RowArrays:
         """The rows of an output over these ticks, joined and with gaps as it is asked for."""
@@ -680,23 +665,28 @@ def one_by_one(name: str, series: Any, clock: Clock, convention: Convention, sca
 
 def rows_from(name: str, series: Any, clock: Clock, convention: Convention, scale: int) -> Iterator[Row]:
     """The rows of a Series, one by one: of its intervals, or of its readings by the convention."""
+    converter = Converter(clock, convention.rule(name, clock))
+    yield from rows_pushed(name, series, converter, convention, scale)
+    final = final_row(name, converter, convention)
+    if final is not None:
+        yield final
+
+
+def rows_pushed(name: str, series: Any, converter: Converter, convention: Convention, scale: int) -> Iterator[Row]:
+    """The rows of the intervals of a Series, or those that its readings end."""
     import pandas
 
-    values = whole_values(name, series, scale)
+    values, clock = whole_values(name, series, scale), converter.clock
     starts = starts_of(name, series.index).tolist()
     if isinstance(series.index, pandas.IntervalIndex):
         check_closed(name, series.index, clock)
         for start, end, value in zip(starts, moments_of(series.index.right, f"the input {name}").tolist(), values):
             yield within(name, (on_ticks(name, clock, start), on_ticks(name, clock, end), value))
         return
-    converter = Converter(clock, convention.rule(name, clock))
     for moment, value in zip(starts, values):
         row = None if value is None and convention.skips_empty(name) else pushed(name, converter, moment, value)
         if row is not None:
             yield row
-    final = final_row(name, converter, convention)
-    if final is not None:
-        yield final
 
 
 def final_row(name: str, converter: Converter, convention: Convention) -> Row | None:
@@ -835,27 +825,21 @@ class Live:
         if not isinstance(series, pandas.Series):
             raise Refused(f"the input {name}: a Series was expected, not {type(series).__name__}")
         taken.note_zone(series.index)
-        if isinstance(series.index, pandas.IntervalIndex):
-            for whole in rows_from(name, series, self.clock, self.convention, self.convention.scale_of(name) or self.scale):
-                taken.held[name].append(self.checked(name, whole, taken.reached[name]))
-                taken.reached[name] = whole[1]
-            return
         converter = taken.converters[name]
-        values = whole_values(name, series, self.convention.scale_of(name) or self.scale)
-        for moment, value in zip(starts_of(name, series.index).tolist(), values):
-            if value is None and self.convention.skips_empty(name):
-                continue
-            row = pushed(name, converter, moment, value)
-            if row is not None:
-                taken.held[name].append(row)
+        has_rows = isinstance(series.index, pandas.IntervalIndex)
+        for row in rows_pushed(name, series, converter, self.convention, self.convention.scale_of(name) or self.scale):
+            if has_rows:
+                self.check_order(name, row, taken.reached[name])
+                taken.reached[name] = row[1]
+            taken.held[name].append(row)
+        if not has_rows and converter.moment is not None:
             taken.reached[name] = converter.start
 
-    def checked(self, name: str, row: Row, before: int | None) -> Row:
+    def check_order(self, name: str, row: Row, before: int | None) -> None:
         """The program may be handed a row long after the push that it came with, so that its order is looked at here."""
         if row[0] >= row[1] or before is not None and row[0] < before:
             what = "is empty, or begins before the one before it ends: sort_index()"
             raise Refused(f"the input {name}: the interval at {moment_text(self.clock.moment(row[0]), 9)} {what}")
-        return row
 
     def frame(self, rows: list[Row]) -> pandas.DataFrame:
         return Shape(self.clock, self.taken.zone, int(self.convention.output_scale or self.scale)).frame(RowArrays.of(rows))
