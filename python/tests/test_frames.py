@@ -14,6 +14,7 @@ import pytest
 pandas = pytest.importorskip("pandas")
 
 from conftest import PROGRAM
+import tilt_data
 from tilt_data import Convention, Query, Refused, TiltError, run, sessions, span
 
 AVERAGE = "input temp; emit avg(temp[t-600:t]) over (0, 3600] every 600;"
@@ -634,3 +635,19 @@ def test_sessions_have_the_zone_of_their_readings():
     # At five past midnight, local time, the five readings from midnight on are added.
     assert parts[0].index[0].right == temp.index[5] and parts[0]["value"].iloc[0] == pytest.approx(sum(temp.iloc[:5]))
     assert joined(parts) == joined([run(PUSHED, temp, **common)])
+
+
+def test_series_that_are_written_once_are_the_inputs_of_many_runs(tmp_path):
+    times = pandas.to_datetime(["2026-03-01 00:00", "2026-03-01 00:05", "2026-03-01 00:10"]).tz_localize("Europe/Zurich")
+    data = pandas.DataFrame({"x": [3.5, None, 5.0], "a/b": [1, 2, 3]}, times)
+    paths = tilt_data.series(data, tmp_path / "kept", tick="1min", max_age="5min", event={"a/b": True})
+    assert paths == {"x": str(tmp_path / "kept/x.csv"), "a/b": str(tmp_path / "kept/a%2Fb.csv")}
+    query = "input x; emit avg(x[t-10:t]) over (0, 20] every 10;"
+    given = run(query, data, tick="1min", max_age="5min", scale=10)
+    kept = run(query, inputs={"x": paths["x"]})
+    assert kept["value"].tolist() == given["value"].tolist()
+    (tmp_path / "kept/y.csv").write_text("mine")
+    with pytest.raises(Refused, match="`tilt-data` didn't write it; name another folder"):
+        tilt_data.series(inputs={"y": data["x"]}, folder=tmp_path / "kept", tick="1min")
+    with pytest.raises(Refused, match="inputs={name: Series}"):
+        tilt_data.series(data["x"], tmp_path)

@@ -620,7 +620,7 @@ def test_sorting_is_by_time_and_then_by_line(told):
 
 
 def test_sorting_in_parts(tmp_path):
-    from tilt_data.series import in_order
+    from tilt_data.readings import in_order
 
     draws = random.Random(5)
     readings = [(draws.randrange(50), line, "", "x", "1") for line in range(1000)]

@@ -11,12 +11,26 @@ if TYPE_CHECKING:
     from .convention import Convention
     from .errors import Refused, TiltError
     from .explain import Explained
-    from .frames import Live, Query, run, span
+    from .frames import Live, Query, run, series, span
     from .plotting import plot
     from .scaling import Scaled, scale
     from .version import VERSION as __version__
 
-__all__ = ["Convention", "Explained", "Live", "Query", "Refused", "Scaled", "TiltError", "__version__", "plot", "run", "scale", "span"]
+__all__ = [
+    "Convention",
+    "Explained",
+    "Live",
+    "Query",
+    "Refused",
+    "Scaled",
+    "TiltError",
+    "__version__",
+    "plot",
+    "run",
+    "scale",
+    "series",
+    "span",
+]
 # The module of each name, and its name there.
 PLACES = {
     "Convention": ("convention", "Convention"),
@@ -26,6 +40,7 @@ PLACES = {
     "Live": ("frames", "Live"),
     "Query": ("frames", "Query"),
     "run": ("frames", "run"),
+    "series": ("frames", "series"),
     "span": ("frames", "span"),
     "plot": ("plotting", "plot"),
     "Scaled": ("scaling", "Scaled"),

@@ -16,7 +16,7 @@ from .errors import Refused, note, printable
 
 # The module of each command. A call loads that of its own alone.
 COMMANDS = {
-    "series": "series",
+    "series": "readings",
     "table": "table",
     "run": "why",
     "why": "why",

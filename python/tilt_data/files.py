@@ -724,6 +724,26 @@ def notes_read(found: dict[str, Any]) -> Notes:
     return notes
 
 
+def check_replaceable(path: str, cure: str) -> None:
+    """Rejects a series that would replace a file of other origin. A series of ours has the JSON file of ours beside it."""
+    notes = notes_path(path)
+    if os.path.isfile(notes) and not is_ours(notes):
+        raise Refused(f"{notes}: it is there, and `tilt-data` didn't write it; {cure}")
+    # What the caller handed open, such as /dev/stdout, is never replaced.
+    if os.path.isfile(path) and not os.path.isfile(notes) and not is_handed(followed(path)):
+        raise Refused(f"{path}: it is there without a JSON file beside it, so `tilt-data` didn't write it; {cure}")
+
+
+def is_ours(notes: str) -> bool:
+    """Whether a JSON file is one that is written beside a series."""
+    try:
+        with open(notes, encoding="utf-8") as file:
+            found = json.load(file)
+    except (OSError, ValueError, RecursionError):
+        return False
+    return isinstance(found, dict) and "tilt-data" in found
+
+
 @contextlib.contextmanager
 def scratch() -> Iterator[str]:
     """A folder that goes away at the end."""

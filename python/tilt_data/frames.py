@@ -23,7 +23,7 @@ from .convert import Converter, Late, Tie
 from .degrees import scale_notes
 from .errors import Refused, TiltError
 from .explain import Explained
-from .files import HEADER, Notes, Row, notes_of, reading
+from .files import HEADER, Notes, Outputs, Row, check_replaceable, notes_of, notes_path, reading, safe
 from .keys import APART, Alone, Batches, Column, Readings, readings_by_key
 from .over import Extent, Over, cut_note, edges_of, over_of
 from .program import REFUSALS
@@ -261,6 +261,42 @@ def span(
         with reading(file) as opened:
             note(name, rows_in(file, opened))
     return needed_edges(list(extents.values()))
+
+
+def series(
+    data: Any = None,
+    folder: str | os.PathLike[str] = ".",
+    *,
+    inputs: Mapping[str, Any] | None = None,
+    convention: Convention | None = None,
+    **options: Unpack[Options],
+) -> dict[str, str]:
+    """Writes each column of a DataFrame, or each Series of `inputs`, to a series file with its JSON file, by the arguments that `run` takes:
+    the path of each by its name, for the `inputs` of many runs. A file that `tilt-data` didn't write isn't replaced."""
+    convention = convention_of(convention, options, ("inputs", "convention"))
+    named = {**frame_inputs(data, [str(name) for name in getattr(data, "columns", [])]), **(inputs or {})}
+    with Outputs() as outputs:
+        paths = {name: os.path.join(folder, f"{safe(name)}.csv") for name in named}
+        for path in paths.values():
+            check_replaceable(path, "name another folder")
+        write_series(outputs, named, paths, convention)
+        outputs.commit()
+    return paths
+
+
+def write_series(outputs: Outputs, named: dict[str, Any], paths: Mapping[str, str], convention: Convention) -> None:
+    """Writes the Series among some inputs, which have one clock, to files with their notes."""
+
+    def take(name: str, parts: Iterable[RowArrays]) -> None:
+        outputs.write(paths[name], ",".join(HEADER) + "\n")
+        for part in parts:
+            outputs.write(paths[name], part.text().decode())
+
+    shape, scale = bind(list(named), named, dataclasses.replace(convention, scales="differ", output_scale=1), take)
+    zone = getattr(shape.zone, "key", None) or getattr(shape.zone, "zone", None)
+    for name, one in parted(named)[1].items():
+        kind = "event" if convention.is_event(name) and closed_in(name, one.index) is None else "hold"
+        outputs.write(notes_path(paths[name]), Notes(shape.clock, convention.scale_of(name) or scale, kind, name, zone=zone).text())
 
 
 # Inputs

@@ -15,7 +15,7 @@ from .convention import Convention
 from .drawn import Drawn, add_drawn, clipped, clock_of, copy_pipes, joined, numbers_of, panels_of, printable
 from .drawn import stretch_given, stretch_of, thinned, widened, zone_name_of
 from .errors import Refused
-from .files import Notes, failing_at, notes_path, scratch, taking
+from .files import Outputs, failing_at, scratch, taking
 from .progress import shown
 from .version import VERSION
 
@@ -272,16 +272,11 @@ def files_drawn(what: Mapping[str, Shown], like: str | None, convention: Convent
     auto = frames.auto_scale({name: one for name, one in series.items() if convention.scale_of(name) is None})
     scales = {name: convention.scale_of(name) or auto for name in series}
     # A name can have what no file name has.
-    numbers, taken = {name: str(number) for number, name in enumerate(series)}, frames.Inputs(folder, None)
-    convention = dataclasses.replace(convention, scale=scales, scales="differ", output_scale=1)
-    shape, _ = frames.bind(list(known), known, convention, lambda name, parts: taken.take(numbers[name], parts))
-    zone = getattr(shape.zone, "key", None) or getattr(shape.zone, "zone", None)
-    for name, number in numbers.items():
-        files[name] = taken.files[number]
-        kind = "event" if convention.is_event(name) and not hasattr(series[name].index, "closed") else "hold"
-        with open(notes_path(files[name]), "w", encoding="utf-8") as file:
-            file.write(Notes(shape.clock, scales[name], kind, zone=zone).text())
-    return {name: files[name] for name in what}
+    paths = {name: os.path.join(folder, f"{number}.csv") for number, name in enumerate(series)}
+    with Outputs() as outputs:
+        frames.write_series(outputs, known, paths, dataclasses.replace(convention, scale=scales))
+        outputs.commit()
+    return {name: {**files, **paths}[name] for name in what}
 
 
 def column_of(name: str, one: Any) -> Any:

@@ -9,9 +9,8 @@ from typing import Any, Iterator
 from .clock import TIMES, WHOLE, Clock, Moments, duration_of, moment_text, zone_of
 from .convert import row_text
 from .errors import Refused
-from .files import Notes, Outputs, Row, notes_of, notes_path, same_file
+from .files import Notes, Outputs, Row, check_replaceable, notes_of, notes_path, same_file
 from .progress import shown
-from .series import check_replaceable
 
 HELP = """Writes a helper series, with its JSON file beside, on the clock of the series that --like names. KIND is one of these:
 each: a row of 0 for each tick, so that avg of x + each is weighted by time.

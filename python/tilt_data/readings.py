@@ -5,7 +5,6 @@ from __future__ import annotations
 import argparse
 import dataclasses
 import heapq
-import json
 import os
 import pickle
 import re
@@ -16,7 +15,7 @@ from .clock import TIMES, Clock, Moments, duration_text, moment_text, zone_of
 from .convention import TextConvention, time_text
 from .convert import Converter, Late, Tie, row_text
 from .errors import Refused, note, refused_at
-from .files import Notes, Outputs, followed, is_handed, notes_path, reading, records, safe, same_file, scratch, spooled
+from .files import Notes, Outputs, check_replaceable, notes_path, reading, records, safe, same_file, scratch, spooled
 from .progress import shown
 from .scales import Scale, digits_after_point
 
@@ -338,26 +337,6 @@ def pointed(text: str, sign: str) -> str:
     if "." in text:
         raise ValueError(f"{text!r} has a point, and --decimal says that {sign!r} is before the fraction")
     return text.replace(sign, ".")
-
-
-def check_replaceable(path: str, cure: str) -> None:
-    """Rejects a series that would replace a file of other origin. A series of ours has the JSON file of ours beside it."""
-    notes = notes_path(path)
-    if os.path.isfile(notes) and not is_ours(notes):
-        raise Refused(f"{notes}: it is there, and `tilt-data` didn't write it; {cure}")
-    # What the caller handed open, such as /dev/stdout, is never replaced.
-    if os.path.isfile(path) and not os.path.isfile(notes) and not is_handed(followed(path)):
-        raise Refused(f"{path}: it is there without a JSON file beside it, so `tilt-data` didn't write it; {cure}")
-
-
-def is_ours(notes: str) -> bool:
-    """Whether a JSON file is one that is written beside a series."""
-    try:
-        with open(notes, encoding="utf-8") as file:
-            found = json.load(file)
-    except (OSError, ValueError, RecursionError):
-        return False
-    return isinstance(found, dict) and "tilt-data" in found
 
 
 def file_of(key: str, name: str, prefix: bool) -> str:
