@@ -17,7 +17,7 @@ import pytest
 from tilt_data import Convention, plot
 from tilt_data.axis import axis_of
 from tilt_data.clock import Clock
-from tilt_data.drawn import Drawn, clipped, joined, numbers_of, thinned
+from tilt_data.drawn import Drawn, bands_of, clipped, numbers_of, thinned
 from tilt_data.errors import Refused
 from tilt_data.files import Notes
 from tilt_data.plotting import BAND, COLOURS, LIMIT, Size, bands, look_of, steps
@@ -103,8 +103,8 @@ def test_each_short_alarm_of_a_long_recording_is_seen(told):
 
 
 def test_bands():
-    assert list(joined([(0, 5, 1), (5, 8, 2), (8, 9, 0), (9, 10, 1), (30, 31, 1)], 0)) == [(0, 8), (9, 10), (30, 31)]
-    assert list(joined([(0, 5, 1), (8, 9, 1), (30, 31, 1)], 3)) == [(0, 9), (30, 31)]
+    assert list(bands_of([(0, 5, 1), (5, 8, 2), (8, 9, 0), (9, 10, 1), (30, 31, 1)], 0)) == [(0, 8), (9, 10), (30, 31)]
+    assert list(bands_of([(0, 5, 1), (8, 9, 1), (30, 31, 1)], 3)) == [(0, 9), (30, 31)]
 
 
 @pytest.mark.parametrize(

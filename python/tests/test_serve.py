@@ -22,7 +22,7 @@ import pytest
 from conftest import PYTHON
 from test_plot import put
 from test_view import WAIT, chart_of, edges, shown_values
-from tilt_data.drawn import joined
+from tilt_data.drawn import bands_of
 
 HEADER = "start,end,value\n"
 # Seconds for what has to happen.
@@ -576,7 +576,7 @@ def test_rows_and_episodes_are_those_of_the_rows_that_are_kept(browser):
                 whole = [row for row, after in zip(taken, [*taken[1:], None]) if row[1] is not None or after is None]
                 wanted = [(start, start + 1 if end is None else end, value) for start, end, value in whole][-40:]
                 assert found[0] == [list(row) for row in wanted]
-                episodes = [list(one) for one in joined(wanted, 2)]
+                episodes = [list(one) for one in bands_of(wanted, 2)]
                 if episodes and found[1] and found[1][0][0] == wanted[0][0] != episodes[0][0]:
                     # What was joined to rows that are dropped starts where the rows that are kept do.
                     episodes[0][0] = wanted[0][0]

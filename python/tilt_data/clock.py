@@ -170,6 +170,13 @@ class Clock:
         since = moment - self.origin
         return since // self.tick if self.closed == "left" else -(-since // self.tick) - 1
 
+    def tick_of(self, text: str, zone: str | None) -> int:
+        """The tick of a number, or of a time in ISO 8601: at an edge the one that ends there. What is neither is a ValueError."""
+        if WHOLE.fullmatch(text):
+            # No tick has more than 30 digits, and Python doesn't read thousands of them.
+            return int(text) if len(text) <= 30 else TIMES + 1
+        return self.start(Moments(None, zone_of(zone)).iso(text)) + (self.closed == "right")
+
     def moment(self, tick: int) -> int:
         """The moment at the end of a tick, which is where the next one begins."""
         return self.origin + tick * self.tick

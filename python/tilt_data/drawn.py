@@ -7,7 +7,7 @@ import os
 import re
 from typing import Iterable, Iterator, Mapping
 
-from .clock import TIMES, Clock, Moments, zone_of
+from .clock import TIMES, WHOLE, Clock
 from .errors import Refused
 from .files import Notes, Row, notes_of, reading, rows_of, spooled
 
@@ -162,16 +162,16 @@ def widened(extent: tuple[int, int] | None, start: int, end: int) -> tuple[int, 
 
 
 def tick_of(text: str, clock: Clock | None, zone: str | None) -> int:
-    if re.fullmatch("-?[0-9]+", text):
-        if len(text) > 20 or not -TIMES <= int(text) <= TIMES:
-            raise Refused(f"{text[:40]}: a tick from {-TIMES} to {TIMES} was expected")
-        return int(text)
-    if clock is None:
+    is_tick = WHOLE.fullmatch(text) is not None
+    if clock is None and not is_tick:
         raise Refused(f"{text!r} is no tick, and no file has a clock: --like SERIES names one")
     try:
-        return clock.start(Moments(None, zone_of(zone)).iso(text)) + (clock.closed == "right")
+        tick = (clock or Clock(1, 0)).tick_of(text, zone)
     except ValueError as error:
         raise Refused(str(error)) from error
+    if is_tick and not -TIMES <= tick <= TIMES:
+        raise Refused(f"{text[:40]}: a tick from {-TIMES} to {TIMES} was expected")
+    return tick
 
 
 def met(rows: Iterable[Row], lo: int, hi: int) -> Iterator[tuple[int, int, int]]:
@@ -212,12 +212,15 @@ def outline(rows: list[tuple[int, int, int]]) -> list[tuple[int, int, int]]:
     return sorted({rows[0], least, greatest, rows[-1]})
 
 
-def joined(rows: Iterable[tuple[int, int, int]], near: float) -> Iterator[tuple[int, int]]:
+def bands_of(rows: Iterable[tuple[int, int, int]], near: float) -> Iterator[tuple[int, int]]:
     """Stretches with a value other than 0, as bands; those that lie nearer than so many ticks are one."""
+    return joined(((start, end) for start, end, value in rows if value != 0), near)
+
+
+def joined(stretches: Iterable[tuple[int, int]], near: float) -> Iterator[tuple[int, int]]:
+    """Stretches in order, of which those that lie nearer than so many ticks are one."""
     held: tuple[int, int] | None = None
-    for start, end, value in rows:
-        if value == 0:
-            continue
+    for start, end in stretches:
         if held is not None and start - held[1] <= near:
             held = held[0], end
         else:

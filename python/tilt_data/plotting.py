@@ -12,7 +12,7 @@ from . import frames
 from .axis import axis_of
 from .clock import zone_of
 from .convention import Convention
-from .drawn import Drawn, add_drawn, clipped, clock_of, copy_pipes, joined, numbers_of, panels_of, printable
+from .drawn import Drawn, add_drawn, clipped, bands_of, clock_of, copy_pipes, numbers_of, panels_of, printable
 from .drawn import stretch_given, stretch_of, thinned, widened, zone_name_of
 from .errors import Refused
 from .files import Outputs, failing_at, scratch, taking
@@ -95,7 +95,7 @@ def escaped(text: str) -> str:
 def bands(rows: Iterable[tuple[int, int, int]], lo: int, hi: int, columns: int) -> Iterator[tuple[float, float]]:
     """The bands in ticks after `lo`. None is narrower than a column of pixels, which would leave no trace; those within one are joined."""
     column = (hi - lo) / columns
-    for start, end in joined(rows, column):
+    for start, end in bands_of(rows, column):
         begin = min(float(start - lo), hi - lo - column)
         yield begin, max(float(end - lo), begin + column)
 

@@ -89,7 +89,9 @@ def decimal_text(value: int, scale: int) -> str:
     if scale == 10**digits:
         shown = str(abs(value)).rjust(digits + 1, "0")
         return f"{'-' if value < 0 else ''}{shown[:-digits]}.{shown[-digits:]}"
-    digits = digits_of_parts(scale)
+    twos, fives, others = factors(scale)
+    # So many digits after the point have an end, and 20 are shown of those that have none.
+    digits = max(twos, fives) if others == 1 else 20
     scaled, rest = divmod(abs(value) * 10**digits, scale)
     # Half to even; where it is exact there is no rest.
     scaled += 2 * rest > scale or 2 * rest == scale and scaled % 2
@@ -99,12 +101,12 @@ def decimal_text(value: int, scale: int) -> str:
 
 
 @functools.lru_cache(maxsize=64)
-def digits_of_parts(scale: int) -> int:
-    """How many digits after the point whole numbers divided by a scale need; 20 where they have no end."""
+def factors(number: int) -> tuple[int, int, int]:
+    """How many factors 2 and 5 a number has, and what is left without them."""
     counts = []
     for factor in (2, 5):
         count = 0
-        while scale % factor == 0:
-            scale, count = scale // factor, count + 1
+        while number % factor == 0:
+            number, count = number // factor, count + 1
         counts.append(count)
-    return max(counts) if scale == 1 else 20
+    return counts[0], counts[1], number

@@ -13,6 +13,7 @@ import re
 from typing import IO, Any, Iterable, Iterator
 
 from .clock import Clock, duration_of, zone_of
+from .drawn import joined
 from .errors import Refused, refused_at
 from .files import HEADER, Notes, Row, notes_of, notes_path, reading, records, row_of, rows_of, safe, same_file, writing
 from .progress import shown
@@ -233,22 +234,6 @@ def wide(files: list[tuple[str, str]], looks: Looks, merge: bool) -> Iterator[li
 # Episodes
 
 
-def stretches(rows: Iterable[Row], gap: int) -> Iterator[tuple[int, int]]:
-    """Where rows with a value follow one another, with gaps of so many ticks at most."""
-    begin = end = None
-    for start, stop, value in rows:
-        if value is None:
-            continue
-        if end is not None and start - end <= gap:
-            end = stop
-            continue
-        if begin is not None and end is not None:
-            yield begin, end
-        begin, end = start, stop
-    if begin is not None and end is not None:
-        yield begin, end
-
-
 @dataclasses.dataclass
 class Within:
     """The rows of a series, of which those within each of several stretches in order are looked at."""
@@ -325,7 +310,7 @@ def episodes_of(rows: Iterator[Row], look: Look, others: list[tuple[str, str]], 
     with contextlib.ExitStack() as stack:
         opened = [stack.enter_context(reading(other, sha256=shape.sha256)) for (_, other), shape in zip(others, shapes)]
         within = [Within(rows_of(other, file)) for (_, other), file in zip(others, opened)]
-        for start, end in stretches(rows, gap):
+        for start, end in joined(((start, end) for start, end, value in rows if value is not None), gap):
             fields = [look.time(start), look.time(end), length_text(look.clock, end - start)]
             for one, shape in zip(within, shapes):
                 least, greatest, total, ticks = one.figures(start, end)

@@ -6,7 +6,7 @@ import datetime
 import re
 from typing import Any, Iterator
 
-from .clock import TIMES, WHOLE, Clock, Moments, duration_of, moment_text, zone_of
+from .clock import TIMES, Clock, duration_of, moment_text, zone_of
 from .convert import row_text
 from .errors import Refused
 from .files import Notes, Outputs, Row, check_replaceable, notes_of, notes_path, same_file
@@ -69,11 +69,7 @@ def main(words: argparse.Namespace) -> int:
 def tick_of(option: str, text: str, clock: Clock, zone: str | None) -> int:
     """The tick of a time or of a number, which the program has to take."""
     try:
-        if WHOLE.fullmatch(text):
-            # No tick has more than 30 digits, and Python doesn't read thousands of them.
-            tick = int(text) if len(text) <= 30 else TIMES + 1
-        else:
-            tick = clock.start(Moments(None, zone_of(zone)).iso(text)) + (clock.closed == "right")
+        tick = clock.tick_of(text, zone)
     except ValueError as error:
         raise Refused(f"{option}: {error}") from error
     if not -TIMES <= tick <= TIMES:

@@ -12,7 +12,7 @@ from typing import TYPE_CHECKING, Any
 
 from .errors import Refused
 from .files import LARGEST
-from .scales import MOST_DIGITS, Scale, digits_after_point
+from .scales import MOST_DIGITS, Scale, digits_after_point, factors
 
 if TYPE_CHECKING:
     import pandas
@@ -90,55 +90,28 @@ def plain_values(series: pandas.Series) -> tuple[Any, Any] | None:
 
 def digits_of_floats(values: Any, most: int) -> int:
     """The most digits after the point of these floats, or `most` if that is more."""
-    import numpy
-
-    proved, is_large = have_digits(values, most)
-    left = numpy.flatnonzero(~proved)
-    # Of a large number fewer digits can be proved.
-    for digits in range(most - 1, -1, -1):
-        large = left[is_large[left]]
-        if not len(large):
-            break
-        proved[large], is_large[large] = have_digits(values[large], digits)
-        left = left[~proved[left]]
-    by_text = [left[is_large[left] | (most == MOST_DIGITS)]]
-    return most_digits(values, numpy.setdiff1d(left, by_text[0]), by_text, most)
-
-
-def most_digits(values: Any, left: Any, by_text: list[Any], most: int) -> int:
-    """The most digits after the point of the floats at some places that need more than `most`, and of those that are taken by text."""
-    import numpy
-
-    for digits in range(most + 1, MOST_DIGITS + 1):
+    left = values[~proofs(values, most, most, 10**most)[0]]
+    for digits in range(MOST_DIGITS + 1):
         if not len(left):
             break
-        proved, is_large = have_digits(values[left], digits)
-        most = digits if proved.any() else most
-        by_text.append(left[is_large])
-        left = left[~proved & ~is_large]
-    places = numpy.sort(numpy.concatenate([*by_text, left]))
-    return max([most, *(digits_after_point(str(text_of(value))) for value in values[places])])
+        proved = proofs(left, digits, digits, 10**digits)[0]
+        most = max(most, digits) if proved.any() else most
+        left = left[~proved]
+    return max([most, *(digits_after_point(str(text_of(value))) for value in left)])
 
 
-def have_digits(values: Any, digits: int) -> tuple[Any, Any]:
-    """Whether it is proved that floats have at most so many digits after the point, and whether they are too large for a proof."""
-    proved, is_large, _ = proofs(values, digits, digits, 10**digits)
-    return proved, is_large
-
-
-def proofs(values: Any, twos: int, fives: int, scale: int) -> tuple[Any, Any, Any]:
-    """Whether it is proved that floats times the scale, which has so many factors 2 and 5 and no others, are whole; whether they are too
-    large for a proof; and what they are then."""
+def proofs(values: Any, twos: int, fives: int, scale: int) -> tuple[Any, Any]:
+    """Whether it is proved that floats times the scale, which has so many factors 2 and 5 and no others, are whole; and what they are
+    then."""
     import numpy
 
     size = values.dtype.itemsize
     if twos > MOST_TWOS[size] or fives > MOST_FIVES[size]:
-        return numpy.zeros(len(values), bool), numpy.ones(len(values), bool), values
+        return numpy.zeros(len(values), bool), values
     factor = values.dtype.type(scale)
     with numpy.errstate(over="ignore", invalid="ignore"):
         whole = numpy.rint(values * factor)
-        is_large = ~(numpy.abs(whole) <= PROVED[size] // (10 ** max(twos, fives) // scale))
-        return (whole / factor == values) & ~is_large, is_large, whole
+        return (whole / factor == values) & (numpy.abs(whole) <= PROVED[size] // (10 ** max(twos, fives) // scale)), whole
 
 
 def scaled(values: Any, known: Any, scale: int) -> Any:
@@ -151,7 +124,7 @@ def scaled(values: Any, known: Any, scale: int) -> Any:
     for at in range(0, len(values), AT_ONCE):
         some = values[at : at + AT_ONCE]
         if some.dtype.kind == "f":
-            proved, _, whole = proofs(some, twos, fives, scale // rest)
+            proved, whole = proofs(some, twos, fives, scale // rest)
             most = LARGEST // rest
             proved &= numpy.abs(whole) <= float(min(most, PROVED[8]))
             numbers = numpy.where(proved, whole, 0).astype("i8") * (rest if most else 1)
@@ -164,17 +137,6 @@ def scaled(values: Any, known: Any, scale: int) -> Any:
             numbers[place] = read.whole(str(text_of(some[place])))
         found[at : at + AT_ONCE] = numbers if known is None else numpy.where(known[at : at + AT_ONCE], numbers, 0)
     return found
-
-
-def factors(number: int) -> tuple[int, int, int]:
-    """How many factors 2 and 5 a number has, and what is left without them."""
-    counts = []
-    for factor in (2, 5):
-        count = 0
-        while number % factor == 0:
-            number, count = number // factor, count + 1
-        counts.append(count)
-    return counts[0], counts[1], number
 
 
 # By the text

@@ -10,7 +10,7 @@ from typing import IO, Any, Iterable, Iterator
 
 from ..axis import STEPS, changes
 from ..clock import TIMES, Clock, duration_of, zone_of
-from ..drawn import Drawn, add_drawn, clock_of, copy_pipes, joined, met, numbers_of, panels_of, printable
+from ..drawn import Drawn, add_drawn, bands_of, clock_of, copy_pipes, met, numbers_of, panels_of, printable
 from ..drawn import stretch_given, stretch_of, widened, zone_name_of
 from ..errors import Refused
 from ..files import Row, scratch, writing
@@ -165,7 +165,7 @@ def gap_of(text: str | None, clock: Clock | None) -> int:
 
 def add_episodes(episodes: list[tuple[int, int]], block: Block, gap: int) -> None:
     """Adds the stretches of a block that have a value other than 0. One near enough to the last of the block before goes on with it."""
-    for start, end in joined(zip(block.starts, block.ends, block.values), gap):
+    for start, end in bands_of(zip(block.starts, block.ends, block.values), gap):
         if episodes and start - episodes[-1][1] <= gap:
             start = episodes.pop()[0]
         episodes.append((start, end))
