@@ -68,22 +68,15 @@ def zone_of(name: str | None) -> zoneinfo.ZoneInfo | None:
 
 
 def local_moment(local: datetime.datetime, zone: zoneinfo.ZoneInfo | None) -> int:
-    """The moment of a local time. Without a zone it is UTC. A time that the zone has twice or not at all is refused."""
-    if zone is None:
-        shift = datetime.timedelta()
-    else:
-        shift = local.replace(tzinfo=zone).utcoffset() or datetime.timedelta()
+    """The moment of a local time. Without an offset and a zone it is UTC. A time that the zone has twice or not at all is refused."""
+    shift = datetime.timedelta()
+    if local.tzinfo is not None:
+        local = local.astimezone(datetime.timezone.utc).replace(tzinfo=None)
+    elif zone is not None:
+        shift = local.replace(tzinfo=zone).utcoffset() or shift
         if local.replace(tzinfo=zone, fold=1).utcoffset() != shift:
             raise ValueError(f"the zone {zone.key} has this time twice or not at all: write it with its offset, as +01:00")
     return (local - EPOCH - shift) // datetime.timedelta(microseconds=1) * 1000
-
-
-def offset_of(text: str) -> datetime.timedelta:
-    """The offset that a text as `Z`, `+01:00` or `-0530` tells."""
-    if text in "Zz":
-        return datetime.timedelta()
-    minutes = int(text[1:3]) * 60 + int(text[3:].lstrip(":") or 0)
-    return datetime.timedelta(minutes=-minutes if text[0] == "-" else minutes)
 
 
 class Moments:
@@ -131,13 +124,13 @@ class Moments:
         """Minutes are worked out once: most readings share theirs with others."""
         date, minute, offset = place
         try:
-            local = datetime.datetime.fromisoformat(f"{date}T{minute or '00:00'}")
+            local = datetime.datetime.fromisoformat(f"{date}T{minute or '00:00'}{(offset or '').upper()}")
         except ValueError as error:
             raise ValueError(f"{text!r} is no time: there is no such day or minute") from error
         if len(self.known) > 50000:
             self.known.clear()
         try:
-            self.known[place] = local_moment(local, self.zone) if offset is None else local_moment(local - offset_of(offset), None)
+            self.known[place] = local_moment(local, self.zone)
         except OverflowError as error:
             raise ValueError(f"{text!r} is no time: with its offset it lies outside of the years 1 to 9999") from error
 

@@ -29,20 +29,7 @@ is a dashed line, +dots:NAME=FILE has dots, and +band:NAME=FILE is a shaded band
 is a step, events are dots, and null is a gap. What is shorter than a pixel is drawn one pixel wide, and a gap that is shorter isn't drawn.
 One name has one look in all panels. The clock and the scale are those of the JSON file beside each file, or of the series that --like
 names. If there is neither, the axis has ticks. One FILE can be - for standard input."""
-COLOURS = [
-    "#1f5fa8",
-    "#2a7f4f",
-    "#7a3e9d",
-    "#8a6d1d",
-    "#137c86",
-    "#5b5b5b",
-    "#d0438f",
-    "#56a8e0",
-    "#7dac1c",
-    "#5c2b1c",
-    "#b09bdc",
-    "#101c40",
-]
+COLOURS = "#1f5fa8 #2a7f4f #7a3e9d #8a6d1d #137c86 #5b5b5b #d0438f #56a8e0 #7dac1c #5c2b1c #b09bdc #101c40".split()
 # The lines and the dots of the first names, and of those after each round of the colours.
 LINES, DOTS = ["-", (0, (1, 1)), (0, (5, 1, 1, 1))], [".", "x", "+"]
 LIMIT, BAND = "#b3261e", "#f2a33a"

@@ -1,52 +1,49 @@
 """How far a command is, on a terminal."""
 from __future__ import annotations
 
+import contextlib
 import sys
-from typing import Any, Iterable, Iterator, TypeVar
+from typing import Any, Iterable, TypeVar
 
 T = TypeVar("T")
 
 
+def counted(*items: Any, unit: str, total: int | None) -> Any:
+    """What `tqdm` counts on standard error; None if that is no terminal, or `tqdm` isn't there."""
+    if sys.stderr.isatty():
+        with contextlib.suppress(ImportError):
+            from tqdm import tqdm
+
+            return tqdm(*items, unit=f" {unit}", total=total, leave=False)
+    return None
+
+
 def shown(items: Iterable[T], unit: str, total: int | None = None) -> Iterable[T]:
-    """The items, counted on standard error where that is a terminal and `tqdm` is there."""
-    if not sys.stderr.isatty():
-        return items
-    try:
-        from tqdm import tqdm
-    except ImportError:
-        return items
-    counted: Iterator[T] = iter(tqdm(items, unit=f" {unit}", total=total, leave=False))
-    return counted
+    """The items, counted if that can be."""
+    found: Iterable[T] | None = counted(items, unit=unit, total=total)
+    return items if found is None else found
 
 
 class Bar:
-    """How many of so many are done, on standard error where that is a terminal: by `tqdm` where it is there, else by a line of its own."""
+    """How many of so many are done, on standard error if that is a terminal: by `tqdm` if it is there, else by a line of its own."""
 
     def __init__(self, total: int, unit: str, wanted: bool = True) -> None:
         self.total, self.unit, self.done = total, unit, 0
-        self.shown = wanted and sys.stderr.isatty()
-        self.bar: Any = None
-        if self.shown:
-            try:
-                from tqdm import tqdm
-
-                self.bar = tqdm(total=total, unit=f" {unit}", leave=False)
-            except ImportError:
-                self.show()
+        self.bar = counted(unit=unit, total=total) if wanted else None
+        self.has_line = wanted and self.bar is None and sys.stderr.isatty()
+        self.step(0)
 
     def step(self, count: int = 1) -> None:
         self.done += count
         if self.bar is not None:
             self.bar.update(count)
-        elif self.shown:
-            self.show()
-
-    def show(self) -> None:
-        filled = 40 * self.done // max(1, self.total)
-        print(f"\r[{'#' * filled}{' ' * (40 - filled)}] {self.done} of {self.total} {self.unit}", end="", file=sys.stderr, flush=True)
+        elif self.has_line:
+            filled = 40 * self.done // max(1, self.total)
+            line = f"\r[{'#' * filled}{' ' * (40 - filled)}] {self.done} of {self.total} {self.unit}"
+            print(line, end="", file=sys.stderr, flush=True)
 
     def close(self) -> None:
         if self.bar is not None:
             self.bar.close()
-        elif self.shown:
+        elif self.has_line:
             print(f"\r{' ' * 79}\r", end="", file=sys.stderr, flush=True)

@@ -5,29 +5,7 @@ import dataclasses
 import re
 
 REDUCERS = ("sum", "avg", "min", "max", "count", "first", "last", "any", "all")
-RESERVED = frozenset(
-    (
-        "input",
-        "let",
-        "emit",
-        "over",
-        "every",
-        "from",
-        "if",
-        "then",
-        "else",
-        "when",
-        "or",
-        "and",
-        "not",
-        "true",
-        "false",
-        "isnull",
-        "ifnull",
-        "t",
-    )
-    + REDUCERS
-)
+RESERVED = frozenset("input let emit over every from if then else when or and not true false isnull ifnull t".split()) | {*REDUCERS}
 BLANKS = re.compile(rb"[ \t\n\r]*")
 TOKEN = re.compile(rb"([A-Za-z_][A-Za-z0-9_]*)|([0-9]+)|==|!=|<=|>=|[;=<>+\-*/%()\[\],:]")
 GREATEST_NUMBER = 2**63 - 1
@@ -105,16 +83,13 @@ def token_of(found: re.Match[bytes]) -> Token:
 
 
 def unknown_byte(text: bytes, at: int) -> Faulty:
-    sign = chr(text[at])
-    cure = SIGNS.get(sign, "")
-    if text[at] >= 128:
-        end = at + 1
-        while end < len(text) and text[end] & 0xC0 == 0x80:
-            end += 1
-        return Faulty(
-            f"20 bad byte at {at}", Token("", "", at, end), "a letter or sign of ASCII was expected", "write names without accents"
-        )
-    return Faulty(f"20 bad byte at {at}", Token("", sign, at, at + 1), f"the language has no {sign!r}", cure)
+    line, sign = f"20 bad byte at {at}", chr(text[at])
+    if text[at] < 128:
+        return Faulty(line, Token("", sign, at, at + 1), f"the language has no {sign!r}", SIGNS.get(sign, ""))
+    end = at + 1
+    while end < len(text) and text[end] & 0xC0 == 0x80:
+        end += 1
+    return Faulty(line, Token("", "", at, end), "a letter or sign of ASCII was expected", "write names without accents")
 
 
 @dataclasses.dataclass(frozen=True)
