@@ -18,7 +18,7 @@ from typing import Any
 
 import pytest
 from conftest import PYTHON
-from tilt_data import files, table
+from tilt_data import table
 from tilt_data.clock import Clock
 from tilt_data.errors import Refused, printable
 from tilt_data.files import Notes, Outputs, Together, notes_of, placed, reading, rows_of, safe, unsafe
@@ -567,7 +567,7 @@ def test_a_name_that_no_key_has_is_its_own_key(name):
 
 
 FAR, LARGE = 4 * 10**18, 2**63 - 1
-# Lines that aren't read as plain rows are, or that no row is.
+# Lines that are rows of an odd spelling, or no rows.
 ODD = """0,5,+1|5,9,|-5,-3,-0|"0",5,1|"0",5,"1|0,5| 0,5,1|0,5,1,2|1_0,20,3|٣,5,1|0,5,--1|5-,6,1|-,5,1|,5,1|0,,1|,,|5,5,1|6,5,1|0,5,x||0,5,1 |\ufeff0,5,1"""
 ODD_LINES = [
     *ODD.split("|"),
@@ -601,39 +601,33 @@ def made_file(draws: random.Random) -> bytes:
     return bytes(data)
 
 
-def taken(read: Any, path: str, sha256: str | None) -> tuple[list[Any], str]:
+def taken(path: str, sha256: str | None) -> tuple[list[Any], str]:
     """The rows that a reader hands on, and its error."""
     rows: list[Any] = []
     try:
         with reading(path, sha256=sha256) as file:
-            rows.extend(read(path, file))
+            rows.extend(rows_of(path, file))
     except Refused as error:
         return rows, str(error)
     return rows, ""
 
 
-def test_rows_that_are_read_together_are_those_that_are_read_one_by_one(tmp_path, monkeypatch):
+def test_rows_that_are_rejected_are_those_that_the_program_rejects(tmp_path, tilt):
     draws, path, errors = random.Random(11), str(tmp_path / "x.csv"), set()
+    (tmp_path / "q.tilt").write_text(f"input x; emit x over (-{FAR}, {FAR}];")
     for _ in range(600):
         data = made_file(draws)
         pathlib.Path(path).write_bytes(data)
-        monkeypatch.setattr(files, "AT_ONCE", draws.choice([1, 5, 40, 300, 1 << 16]))
-        sha256 = draws.choice([None, hashlib.sha256(data).hexdigest(), "0" * 64])
-        wanted = taken(files.rows_one_by_one, path, sha256)
-        assert taken(rows_of, path, sha256) == wanted, data
-        errors.add(re.sub(r"[0-9]+|,? not .*", "", wanted[1]))
+        rows, error = taken(path, draws.choice([None, hashlib.sha256(data).hexdigest()]))
+        done = subprocess.run([tilt, "run", str(tmp_path / "q.tilt"), f"x={path}"], capture_output=True, text=True)
+        assert bool(done.returncode) == bool(error), (data, error, done.stderr)
+        if not error:
+            printed = [line.split(",") for line in done.stdout.splitlines()[1:]]
+            assert [list(map(str, row)) for row in rows if row[2] is not None] == printed
+        assert taken(path, "0" * 64)[1].startswith(f"{path}: it isn't the file that its JSON file describes")
+        errors.add(re.sub(r"[0-9]+|,? not .*", "", error))
     # All kinds of errors have come, and rows without one.
-    assert "" in errors and len(errors) >= 8, errors
-
-
-def test_plain_rows_are_read_together(tmp_path, monkeypatch):
-    """Neither the sign of a minus, nor a value that is null, nor an end of a line of two signs needs a reader of records."""
-    text = "\ufeffstart,end,value\r\n" + "".join(f"{at},{at + 1},{'' if at % 50 == 7 else -at}\r\n" for at in range(-9000, 9000))
-    path = tmp_path / "x.csv"
-    path.write_bytes(text.encode()[:-2])
-    wanted = taken(files.rows_one_by_one, str(path), None)
-    monkeypatch.setattr(files, "records", None)
-    assert taken(rows_of, str(path), None) == wanted and len(wanted[0]) == 18000
+    assert "" in errors and len(errors) >= 7, errors
 
 
 def test_rows_of_a_pipe_are_handed_on_as_they_come():

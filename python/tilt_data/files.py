@@ -9,9 +9,7 @@ import errno
 import fcntl
 import hashlib
 import io
-import itertools
 import json
-import operator
 import os
 import re
 import shutil
@@ -28,8 +26,6 @@ from .version import VERSION
 
 Row = tuple[int, int, "int | None"]
 HEADER = ["start", "end", "value"]
-# How many characters of rows are read at a time.
-AT_ONCE = 1 << 16
 # How the program spells a number, and the numbers that it takes (`read_number` of crates/tilt_base).
 WHOLE = re.compile(r"[+-]?[0-9]+", re.ASCII)
 SMALLEST, LARGEST = -(2**63), 2**63 - 1
@@ -63,7 +59,7 @@ def reading(path: str, shown: str | None = None, sha256: str | None = None, enco
             yield stream
             return
         with open(path, encoding=encoding, newline="") as file:
-            if sha256 is not None and is_regular(file):
+            if sha256 is not None and os.path.isfile(path):
                 if hashlib.file_digest(file.buffer, "sha256").hexdigest() != sha256:  # type: ignore[arg-type]
                     raise Stale(path, "it isn't the file that its JSON file describes")
                 file.seek(0)
@@ -112,85 +108,9 @@ def records(path: str, file: Iterable[str], delimiter: str = ",") -> Iterator[tu
         raise refused_at(path, ended + 1, f"a record of CSV was expected: {error}") from error
 
 
-def rows_of(path: str, file: IO[str]) -> Iterator[Row]:
-    """The rows of a series or an output: start, end and value of each, in ticks and whole numbers; null is None. What the program rejects
-    is rejected here too, with its line. A file that can be read again is read many rows at a time, until rows aren't spelled plainly; then
-    it is read again, row by row."""
-    count = 0
-    if is_regular(file):
-        try:
-            for rows in blocks_of_rows(file):
-                if rows is None:
-                    break
-                yield from rows
-                count += len(rows)
-            else:
-                return
-        except UnicodeDecodeError:
-            pass
-        file.seek(0)
-    yield from itertools.islice(rows_one_by_one(path, file), count, None)
-
-
-def is_regular(file: IO[str]) -> bool:
-    """Whether it is a file from whose start it can be read again. Rows of a pipe are handed on as they come."""
-    try:
-        return stat.S_ISREG(os.fstat(file.fileno()).st_mode) and file.seekable() and file.tell() == 0
-    except (OSError, ValueError):
-        return False
-
-
-def blocks_of_rows(file: IO[str]) -> Iterator[list[Row] | None]:
-    """The rows of a file, many at a time. The last block is None if row by row something else may be found."""
-    before, rest, is_first = -TIMES, "", True
-    while text := file.read(AT_ONCE):
-        block, end, rest = (rest + text).rpartition("\n")
-        if is_first and end:
-            header, _, block = block.partition("\n")
-            is_first = False
-            if header.removesuffix("\r") != ",".join(HEADER):
-                break
-        if block:
-            rows = plain_rows(block, before)
-            if rows is None:
-                break
-            yield rows
-            before = rows[-1][1]
-        if len(rest) > AT_ONCE:
-            break
-    else:
-        rows = plain_rows(rest, before) if rest else []
-        if rows is not None and not is_first:
-            yield rows
-            return
-    yield None
-
-
-def plain_rows(text: str, before: int) -> list[Row] | None:
-    """The rows of some lines, of which the last has no line end, after a row that ends at `before`. None if a row isn't spelled plainly, by
-    digits and a sign of minus, or isn't in order or too large: `row_of` knows then whether that is an error."""
-    if not text.isascii():
-        return None
-    text = text.replace("\r\n", "\n").removesuffix("\r") + "\n"
-    if text.encode().translate(None, b"0123456789-") != b",,\n" * text.count("\n"):
-        return None
-    fields = text.replace("\n", ",").split(",")
-    try:
-        starts, ends = list(map(int, fields[0:-1:3])), list(map(int, fields[1::3]))
-        known = list(map(int, filter(None, fields[2::3])))
-    except ValueError:
-        return None
-    values: list[Any] = known
-    if len(known) < len(starts):
-        values = [int(value) if value else None for value in fields[2::3]]
-    in_order = all(map(operator.lt, starts, ends)) and all(map(operator.le, ends, starts[1:]))
-    if not in_order or not before <= starts[0] or ends[-1] > TIMES or known and not SMALLEST <= min(known) <= max(known) <= LARGEST:
-        return None
-    return list(zip(starts, ends, values))
-
-
-def rows_one_by_one(path: str, file: Iterable[str]) -> Iterator[Row]:
-    """The rows of a series or an output, each by its record."""
+def rows_of(path: str, file: Iterable[str]) -> Iterator[Row]:
+    """The rows of a series or an output, as they come: start, end and value of each, in ticks and whole numbers; null is None. What the
+    program rejects is rejected here too, with its line."""
     found = records(path, file)
     line, header = next(found, (1, []))
     if header != HEADER:
