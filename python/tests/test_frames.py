@@ -646,6 +646,9 @@ def test_series_that_are_written_once_are_the_inputs_of_many_runs(tmp_path):
     given = run(query, data, tick="1min", max_age="5min", scale=10)
     kept = run(query, inputs={"x": paths["x"]})
     assert kept["value"].tolist() == given["value"].tolist()
+    again = tilt_data.series(data[["x"]].rename(columns={"x": "z"}), tmp_path / "kept", inputs={"x": paths["x"]}, max_age="5min")
+    assert again == {"z": str(tmp_path / "kept/z.csv"), "x": paths["x"]}
+    assert (tmp_path / "kept/z.csv").read_text() == (tmp_path / "kept/x.csv").read_text()
     (tmp_path / "kept/y.csv").write_text("mine")
     with pytest.raises(Refused, match="`tilt-data` didn't write it; name another folder"):
         tilt_data.series(inputs={"y": data["x"]}, folder=tmp_path / "kept", tick="1min")

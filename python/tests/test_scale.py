@@ -1459,7 +1459,7 @@ def test_clocks_that_differ(here):
     assert note.startswith("note: the series x and y have other ") and note.endswith(" (the key b and 1 more)")
     pathlib.Path("y.a=1.csv").write_text(HEADER + "6,8,1\n")
     shutil.copy("y.b.json", "y.a=1.json")
-    with pytest.raises(Refused, match=f"^y: the series {here}/y.a.csv and {here}/y.a%3D1.csv have other "):
+    with pytest.raises(Refused, match=f"^y: the series {here}/y.a.csv and {here}/y.a=1.csv have other "):
         scale(query, {"x": "x.a.csv", "y": ["y.a.csv", "y.a=1.csv"]}, "more", workers=1)
     assert not os.path.exists("more")
 

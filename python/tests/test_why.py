@@ -321,14 +321,13 @@ def test_what_is_compared():
         "e": Notes(left, 7, "helper"),
     }
 
-    def of(names: str, *aspects: str) -> str | None:
-        return clashes({name: known[name] for name in names}, **({"of": aspects} if aspects else {}))
+    def of(names: str) -> str | None:
+        return clashes({name: known[name] for name in names})
 
     assert of("a") is of("ae") is of("") is None
     assert of("ab") == "the inputs have different scales (a: 1; b: 10): write one --like the other before you add or compare them"
     assert of("ac") == "the inputs differ in `closed` (a: left; c: right): write one --like the other"
     assert of("ad") == "the series a and d have other ticks or origins: write one --like the other"
-    assert of("ab", "clock", "closed") is of("ac", "clock", "scale") is of("ad", "scale", "closed") is None
     assert of("abcd") == "; ".join(
         [
             of("ad"),

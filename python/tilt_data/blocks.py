@@ -51,10 +51,6 @@ class Block:
     last: int
     digest: str
 
-    @property
-    def fields(self) -> list[int | str]:
-        return [self.offset, self.length, self.rows, self.first, self.last, self.digest]
-
 
 @dataclasses.dataclass(frozen=True)
 class Indexed:
@@ -219,7 +215,7 @@ def make_index(path: str, folder: str, check: Callable[[], None] = lambda: None)
         "file": file,
         "file-stamp": file_stamp,
         "settled": indexed.settled,
-        "blocks": [block.fields for block in blocks],
+        "blocks": [dataclasses.astuple(block) for block in blocks],
     }
     # An index that a stop of the machine tears can't be read, and is made again.
     with placed(index_path(path, folder), lasting=False) as new:

@@ -7,7 +7,7 @@ import datetime
 import numbers
 from typing import Any, Iterable, Literal, Mapping, TypedDict, TypeVar, Union
 
-from .clock import Clock, Moments, duration_of, duration_text, moment_text, zone_of
+from .clock import TIMES, Clock, Moments, duration_of, duration_text, moment_text, zone_of
 from .convert import TIES, Rule
 from .errors import Refused
 from .files import Notes, notes_of, notes_path
@@ -191,6 +191,16 @@ class TextConvention(Convention):
             return Moments(None, zone_of(self.zone)).iso(text)
         except ValueError as error:
             raise Refused(str(error)) from error
+
+    def until_tick(self, clock: Clock | None) -> int | None:
+        """The tick until which the last reading holds; None if that isn't said, or there is no clock."""
+        moment = None if self.until is None else self.moment(self.until)
+        if moment is None or clock is None:
+            return None
+        tick = clock.start(moment)
+        if not -TIMES <= tick <= TIMES:
+            raise Refused(f"--until {self.until}: its tick is {tick}, and ticks go from {-TIMES} to {TIMES}: name a nearer time")
+        return tick
 
     @property
     def has_clock(self) -> bool:

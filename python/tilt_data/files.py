@@ -48,8 +48,8 @@ HANDED = re.compile(r"/proc/[0-9]+(/task/[0-9]+)?/fd", re.ASCII)
 
 @contextlib.contextmanager
 def reading(path: str, shown: str | None = None, sha256: str | None = None, encoding: str = "utf-8-sig") -> Iterator[IO[str]]:
-    """The text of a file, or of standard input if the path is `-`. Errors name it as `shown`, or by its path. A file that hasn't the SHA-256
-    that its notes have is rejected before it is read. A byte order mark is left out, but not with the encoding `utf-8`."""
+    """The text of a file, or of standard input if the path is `-`. Errors name it as `shown`, or by its path. A file that hasn't the
+    SHA-256 that its notes have is rejected before it is read. A byte order mark is left out, but not with the encoding `utf-8`."""
     shown = "standard input" if "-" in (path, shown) else shown or path
     try:
         if path == "-":

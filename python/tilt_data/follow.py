@@ -160,28 +160,17 @@ class Reader:
         self.moments = Moments(words.unit, zone_of(words.zone))
         self.convention = TextConvention.of(words)
         self.convention.check_names(sources)
-        self.scales = {name: Scale(scale) for name, scale in self.known_scales().items()}
+        self.scales = {name: self.known_scale(name) for name in sources}
         self.clock = self.convention.clock(0) if self.convention.has_clock else None
-        self.until = self.until_of(words)
+        self.until = self.convention.until_tick(self.clock)
         self.unknown: set[str] = set()
 
-    def known_scales(self) -> dict[str, int]:
-        """The scale of each input, which is needed before its first reading."""
-        scales = {name: self.convention.scale_of(name) for name in self.sources}
-        unknown = next((name for name, scale in scales.items() if scale is None), None)
-        if unknown is not None:
+    def known_scale(self, name: str) -> Scale:
+        """The scale of an input, which is needed before its first reading."""
+        scale = self.convention.scale_of(name)
+        if scale is None:
             raise Refused("--scale auto: rows are handed on before all data are there, so a whole number above 0 was expected")
-        return {name: scale for name, scale in scales.items() if scale is not None}
-
-    def until_of(self, words: argparse.Namespace) -> int | None:
-        """The tick of --until, which is read before any line is."""
-        if words.until is None:
-            return None
-        moment = self.convention.moment(words.until)
-        tick = None if self.clock is None else self.clock.start(moment)
-        if tick is not None and not -TIMES <= tick <= TIMES:
-            raise Refused(f"--until {words.until}: its tick {tick} isn't within {-TIMES} to {TIMES}")
-        return tick
+        return Scale(scale)
 
     def take(self, line: str, line_number: int) -> None:
         """One line, without its end. What it can't be is a BadLine."""

@@ -257,10 +257,7 @@ def span(
             extent.add(part)
 
     bind(list(there), there, convention, note)
-    for name, file in parted(there)[0].items():
-        with reading(file) as opened:
-            note(name, rows_in(file, opened))
-    return needed_edges(list(extents.values()))
+    return needed_edges([*extents.values(), *map(extent_of, parted(there)[0].values())])
 
 
 def series(
@@ -271,17 +268,19 @@ def series(
     convention: Convention | None = None,
     **options: Unpack[Options],
 ) -> dict[str, str]:
-    """Writes each column of a DataFrame, or each Series of `inputs`, to a series file with its JSON file, by the arguments that `run` takes:
-    the path of each by its name, for the `inputs` of many runs. A file that `tilt-data` didn't write isn't replaced."""
+    """Writes each column of a DataFrame, or each Series of `inputs`, to a series file with its JSON file, by the arguments that `run`
+    takes: the path of each by its name, for the `inputs` of many runs. A file among `inputs` gives its clock, and its path. A file that
+    `tilt-data` didn't write isn't replaced."""
     convention = convention_of(convention, options, ("inputs", "convention"))
     named = {**frame_inputs(data, [str(name) for name in getattr(data, "columns", [])]), **(inputs or {})}
+    files, columns = parted(named)
+    paths = {name: os.path.join(folder, f"{safe(name)}.csv") for name in columns}
+    for path in paths.values():
+        check_replaceable(path, "name another folder")
     with Outputs() as outputs:
-        paths = {name: os.path.join(folder, f"{safe(name)}.csv") for name in named}
-        for path in paths.values():
-            check_replaceable(path, "name another folder")
         write_series(outputs, named, paths, convention)
         outputs.commit()
-    return paths
+    return {name: {**files, **paths}[name] for name in named}
 
 
 def write_series(outputs: Outputs, named: dict[str, Any], paths: Mapping[str, str], convention: Convention) -> None:
@@ -532,13 +531,17 @@ class Inputs:
 
     def all_extents(self) -> list[Extent]:
         """How far the rows of all inputs reach: those of files are read for it."""
-        found = list(self.extents.values())
-        for name in self.files.keys() - self.extents.keys():
-            with reading(self.files[name]) as opened:
-                found.append(extent := Extent())
-                for part in rows_in(self.files[name], opened):
-                    extent.add(part)
-        return found
+        read = [extent_of(self.files[name]) for name in self.files.keys() - self.extents.keys()]
+        return [*self.extents.values(), *read]
+
+
+def extent_of(file: str) -> Extent:
+    """How far the rows of a file reach."""
+    extent = Extent()
+    with reading(file) as opened:
+        for part in rows_in(file, opened):
+            extent.add(part)
+    return extent
 
 
 def parted(named: Mapping[str, Any]) -> tuple[dict[str, str], dict[str, Any]]:

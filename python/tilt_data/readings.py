@@ -15,7 +15,7 @@ from .clock import TIMES, Clock, Moments, duration_text, moment_text, zone_of
 from .convention import TextConvention, time_text
 from .convert import Converter, Late, Tie, row_text
 from .errors import Refused, note, refused_at
-from .files import Notes, Outputs, check_replaceable, notes_path, reading, records, safe, same_file, scratch, spooled
+from .files import Notes, Outputs, Row, check_replaceable, notes_path, reading, records, safe, same_file, scratch, spooled
 from .progress import shown
 from .scales import Scale, digits_after_point
 
@@ -167,8 +167,24 @@ def part_of(path: str) -> Iterator[Reading]:
                 return
 
 
+@dataclasses.dataclass
+class Written:
+    """A series that is written: its file, the converter of its readings and the line of the last one; and what is reported of its rows: how
+    many there are, where the first starts and the last ends, and how many have no value."""
+
+    key: str
+    name: str
+    path: str
+    converter: Converter
+    line: int = 0
+    rows: int = 0
+    start: int = 0
+    end: int = 0
+    nulls: int = 0
+
+
 class Converting:
-    """All series of a file while it is read: a converter and a count of rows for each, by key and name."""
+    """All series of a file while it is read, by key and name."""
 
     def __init__(self, words: argparse.Namespace, convention: TextConvention, outputs: Outputs) -> None:
         self.words = words
@@ -178,11 +194,8 @@ class Converting:
         self.clock = Clock(1, 0)
         self.begun = False
         self.scales = Scales({}, Scale(1))
-        self.series: dict[tuple[str, str], Converter] = {}
-        self.files: dict[tuple[str, str], str] = {}
+        self.series: dict[tuple[str, str], Written] = {}
         self.paths: set[str] = set()
-        self.rows: dict[tuple[str, str], list[int]] = {}
-        self.lines: dict[tuple[str, str], int] = {}
 
     def begin(self, moment: int, line: int) -> None:
         """The clock, which may rest on the first reading, and how long readings hold."""
@@ -196,31 +209,23 @@ class Converting:
         moment, line, key, name, text = one
         if not self.begun:
             self.begin(moment, line)
-        place = key, name
-        converter = self.series.get(place)
-        if converter is None:
-            converter = self.new(place, line)
-        if self.convention.is_missing(text):
-            if self.convention.skips_empty(name):
-                return
-            value = None
-        else:
-            value = self.value(name, text, line)
+        series = self.series.get((key, name)) or self.new(key, name, line)
+        is_missing = self.convention.is_missing(text)
+        if is_missing and self.convention.skips_empty(name):
+            return
+        value = None if is_missing else self.value(name, text, line)
         try:
-            row = converter.push(moment, value)
+            row = series.converter.push(moment, value)
         except Tie as error:
-            raise refused_at(
-                self.path,
-                line,
-                f"a second reading of {name} in the tick of line {self.lines[place]}: --ties last, first or " "spread, or a shorter --tick",
-            ) from error
+            what = f"a second reading of {name} in the tick of line {series.line}: --ties last, first or spread, or a shorter --tick"
+            raise refused_at(self.path, line, what) from error
         except Late as error:
-            raise refused_at(self.path, line, f"this reading of {name} lies before that of line {self.lines[place]}: --sort") from error
+            raise refused_at(self.path, line, f"this reading of {name} lies before that of line {series.line}: --sort") from error
         if row is not None:
-            self.put(place, row)
-        self.lines[place] = line
-        if not -TIMES <= converter.start < TIMES:
-            raise self.beyond(line, moment, f"the tick {converter.start}")
+            self.put(series, row)
+        series.line = line
+        if not -TIMES <= series.converter.start < TIMES:
+            raise self.beyond(line, moment, f"the tick {series.converter.start}")
 
     def value(self, name: str, text: str, line: int) -> int:
         try:
@@ -229,25 +234,22 @@ class Converting:
             cure = "; for a decimal comma: --decimal ," if DECIMAL_COMMA.fullmatch(text.strip()) and self.words.decimal == "." else ""
             raise refused_at(self.path, line, f"{name}: {error}{cure}") from error
 
-    def new(self, place: tuple[str, str], line: int) -> Converter:
-        key, name = place
+    def new(self, key: str, name: str, line: int) -> Written:
         if not name:
             raise refused_at(self.path, line, "a name of the series was expected")
         if self.words.key is not None and not key:
             raise refused_at(self.path, line, f"a key was expected in the column {self.words.key}")
-        converter = self.series[place] = Converter(self.clock, self.convention.rule(name, self.clock))
-        path = self.path_of(place, line)
+        converter = Converter(self.clock, self.convention.rule(name, self.clock))
+        path = self.path_of(key, name, line)
         if path in self.paths:
             raise refused_at(self.path, line, f"the key {key} with {name} and another key have one file, {path}: leave --prefix out")
         self.paths.add(path)
-        self.files[place] = path
-        self.rows[place] = [0, 0, 0, 0]
         self.outputs.write(path, "start,end,value\n")
-        return converter
+        series = self.series[key, name] = Written(key, name, path, converter)
+        return series
 
-    def path_of(self, place: tuple[str, str], line: int) -> str:
+    def path_of(self, key: str, name: str, line: int) -> str:
         """The file of a series. It never is one that this call reads, and it is an unknown one only by --force."""
-        key, name = place
         file = file_of(key, name, self.words.prefix)
         path = file if self.words.out == "." else os.path.join(self.words.out, file)
         if max(len(part) for part in notes_path(file).split(os.sep)) > LONGEST_NAME:
@@ -271,38 +273,31 @@ class Converting:
         cure = "name a nearer --origin, or take a longer --tick"
         return refused_at(self.path, line, f"the reading at {time_text(moment)} has {what}, and ticks go from {-TIMES} to {TIMES}: {cure}")
 
-    def put(self, place: tuple[str, str], row: tuple[int, int, int | None]) -> None:
-        if row[1] > TIMES:
-            raise self.beyond(self.lines[place], self.clock.moment(row[0]), f"a row to the tick {row[1]}")
-        figures = self.rows[place]
-        if not figures[0]:
-            figures[1] = row[0]
-        figures[0] += 1
-        figures[2] = row[1]
-        figures[3] += row[2] is None
-        self.outputs.write(self.files[place], row_text(row))
+    def put(self, series: Written, row: Row) -> None:
+        start, end, value = row
+        if end > TIMES:
+            raise self.beyond(series.line, self.clock.moment(start), f"a row to the tick {end}")
+        series.start = series.start if series.rows else start
+        series.rows, series.end, series.nulls = series.rows + 1, end, series.nulls + (value is None)
+        self.outputs.write(series.path, row_text(row))
 
     def finish(self) -> None:
-        until = None
-        if self.words.until is not None and self.begun:
-            until = self.clock.start(self.convention.moment(self.words.until))
-            if not -TIMES <= until <= TIMES:
-                raise Refused(f"--until {self.words.until}: its tick is {until}, and ticks go from {-TIMES} to {TIMES}: name a nearer time")
-        for place, converter in self.series.items():
-            row = converter.finish(until)
+        until = self.convention.until_tick(self.clock if self.begun else None)
+        for series in self.series.values():
+            row = series.converter.finish(until)
             if row is not None:
-                self.put(place, row)
-            self.outputs.write(notes_path(self.files[place]), self.notes(place).text())
+                self.put(series, row)
+            self.outputs.write(notes_path(series.path), self.notes(series).text())
 
     def check_names(self) -> None:
         """Refuses words that name a series which isn't there: they would have changed nothing."""
         if self.begun:
             self.convention.check_names(sorted({name for _, name in self.series}), "series")
 
-    def notes(self, place: tuple[str, str]) -> Notes:
-        key, name = place
-        kind = "event" if self.convention.is_event(name) else "hold"
-        return Notes(self.clock, self.scales.of(name).scale, kind, name, key if self.words.key else None, self.words.zone)
+    def notes(self, series: Written) -> Notes:
+        kind = "event" if self.convention.is_event(series.name) else "hold"
+        key = series.key if self.words.key else None
+        return Notes(self.clock, self.scales.of(series.name).scale, kind, series.name, key, self.words.zone)
 
     def told(self, most: int = 10) -> Iterator[str]:
         """What is told of each series, and of those after the tenth how many they are."""
@@ -310,18 +305,16 @@ class Converting:
             yield "no reading, and no series"
             return
         yield f"a tick is {duration_text(self.clock.tick)}, closed {self.clock.closed}, from {moment_text(self.clock.origin, 0)}"
-        for place in list(self.series)[:most]:
-            yield f"{self.files[place]}: {self.figures(place)}"
+        for series in list(self.series.values())[:most]:
+            yield f"{series.path}: {self.figures(series)}"
         if len(self.series) > most:
             yield f"and {len(self.series) - most} more series"
 
-    def figures(self, place: tuple[str, str]) -> str:
-        rows, start, end, nulls = self.rows[place]
-        converter = self.series[place]
-        text = f"{rows} rows over ({start}, {end}]" if rows else "no rows"
-        scale = self.scales.of(place[1]).scale
+    def figures(self, series: Written) -> str:
+        converter, scale = series.converter, self.scales.of(series.name).scale
+        text = f"{series.rows} rows over ({series.start}, {series.end}]" if series.rows else "no rows"
         notes = (
-            ("without a value", nulls),
+            ("without a value", series.nulls),
             ("dropped, in one tick with another", converter.dropped),
             ("moved to the next free tick", converter.moved),
             ("gaps after --max-age", converter.gaps),

@@ -26,7 +26,7 @@ from .program import program
 from .progress import Bar
 from .tasks import Indexing, Joining, Keys, Made, Stretch, Task
 from .version import VERSION
-from .why import clashes
+from .why import clashes_of
 
 if TYPE_CHECKING:
     Files = Union[str, os.PathLike[str], Sequence[Union[str, os.PathLike[str]]]]
@@ -196,8 +196,7 @@ class Plan:
         """Raises a Refused if files of one input have different clocks or scales, since all their rows go to the program as one series."""
         several = {tuple(paths): name for its in self.files.values() for name, paths in its.items() if len(paths) > 1}
         for paths, name in several.items():
-            # In an argument the name ends at the first sign of equality.
-            clash = clashes(["query", *(f"{path.replace('=', '%3D')}={path}" for path in paths)])
+            clash = clashes_of({path: path for path in paths})
             if clash:
                 raise Refused(f"{name}: {clash}")
 
@@ -317,7 +316,7 @@ class Plan:
             yield f"cuts that had no place of their own in the domain, so that there are fewer parts: {self.fewer}"
         found: dict[str, list[str]] = {}
         for key, its in self.files.items():
-            clash = clashes(["query", *(f"{name}={paths[0]}" for name, paths in its.items())])
+            clash = clashes_of({name: paths[0] for name, paths in its.items()})
             if clash:
                 found.setdefault(clash, []).append(urllib.parse.unquote(key))
         for clash, keys in found.items():

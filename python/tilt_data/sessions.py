@@ -58,8 +58,8 @@ def put_rows(folder: str, rows: Mapping[str, Iterable[Row]]) -> list[str]:
 
 
 def session(query: str, state: str | None, binds: list[str], cut: int | None, save: str, out: str) -> None:
-    """Runs a session: the first one of a query, or one that goes on from the checkpoint `state`. One up to a cut saves a checkpoint, and one
-    without a cut is the last."""
+    """Runs a session: the first one of a query, or one that goes on from the checkpoint `state`. One up to a cut saves a checkpoint, and
+    one without a cut is the last."""
     if cut is not None:
         binds = [*binds, "--upto", str(cut), "--save", save]
     if state is not None:

@@ -11,7 +11,7 @@ import difflib
 import os
 import re
 import sys
-from typing import Any, Collection, Iterable, Iterator, Literal, Mapping, Sequence, TypeVar, get_args
+from typing import Any, Iterable, Iterator, Mapping, TypeVar
 
 from .errors import Refused, note, printable
 from .explain import inputs_of
@@ -22,9 +22,6 @@ from .tokens import Fault, place_of
 
 SERIES_LINE = re.compile(r"(1[0-7]) series (\S+): (.*)")
 ROW = re.compile(r" in row (\d+)$")
-# What the notes of the inputs of a query have in common, or don't.
-Aspect = Literal["clock", "closed", "scale"]
-ASPECTS: tuple[Aspect, ...] = get_args(Aspect)
 Fact = TypeVar("Fact")
 CURES = {
     10: "the first line has to be start,end,value; a CSV of readings becomes a series by `tilt-data series`",
@@ -177,21 +174,27 @@ def refusal_of(told: str, words: list[str]) -> Refusal | None:
     return fault_refusal(line[len("4 read fault: ") :]) if line.startswith("4 read fault: ") else None
 
 
-def clashes(inputs: Sequence[str] | Mapping[str, Notes], of: Collection[Aspect] = ASPECTS) -> str | None:
-    """What the notes of inputs differ in, in one line; None if they agree. The inputs are the arguments of `run` after it, or the notes by
-    the names of the inputs. `of` says what is compared. Scales aren't compared with those of helper series, which count and have no unit.
-    With arguments, files without notes are left out, and notes that don't describe their file are part of the line."""
+def clashes_of(files: Mapping[str, str]) -> str | None:
+    """What the notes of the files of inputs differ in, in one line, after what is said of notes that don't describe their file; None if
+    they agree. Files without notes are left out."""
     texts: list[str] = []
-    known = inputs if isinstance(inputs, Mapping) else known_notes(bound(list(inputs)), texts)
+    clash = clashes(known_notes(files, texts))
+    return "; ".join([*texts, clash] if clash is not None else texts) or None
+
+
+def clashes(known: Mapping[str, Notes]) -> str | None:
+    """What the notes of inputs differ in, in one line; None if they agree. Scales aren't compared with those of helper series, which count
+    and have no unit."""
+    texts: list[str] = []
     clocks = distinct((name, (notes.clock.tick, notes.clock.origin)) for name, notes in known.items())
-    if "clock" in of and len(clocks) > 1:
+    if len(clocks) > 1:
         first, other = (names[0] for names in list(clocks.values())[:2])
         texts.append(f"the series {first} and {other} have other ticks or origins: write one --like the other")
     closed = distinct((name, notes.clock.closed) for name, notes in known.items())
-    if "closed" in of and len(closed) > 1:
+    if len(closed) > 1:
         texts.append(f"the inputs differ in `closed` ({shown_by(closed)}): write one --like the other")
     scales = distinct((name, notes.scale) for name, notes in known.items() if notes.kind != "helper")
-    if "scale" in of and len(scales) > 1:
+    if len(scales) > 1:
         texts.append(f"the inputs have different scales ({shown_by(scales)}): write one --like the other before you add or compare them")
     return "; ".join(texts) or None
 
@@ -237,7 +240,7 @@ def passed_on(command: str, words: list[str]) -> int:
 def run(words: list[str]) -> int:
     """`tilt run` with these words: its status and its bytes."""
     status = passed_on("run", words)
-    clash = None if status else clashes(words)
+    clash = None if status else clashes_of(bound(words))
     if clash:
         note(f"note: {printable(clash)}")
     return status

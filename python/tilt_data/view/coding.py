@@ -12,7 +12,7 @@ import itertools
 import operator
 import sys
 import zlib
-from typing import Any, Iterable, Iterator, Sequence
+from typing import Any, Iterable, Iterator, NamedTuple, Sequence
 
 # How many rows a block has, and a summarized bucket at most.
 BLOCK, BUCKET = 1 << 16, 64
@@ -78,43 +78,38 @@ class Block:
                     yield at
 
 
+class Bucket(NamedTuple):
+    """Some rows of a block: their extent, how many they are, the first and the last value, and how far the least and the greatest are from
+    the first."""
+
+    start: int
+    end: int
+    rows: int
+    first: int
+    last: int
+    below: int
+    above: int
+
+
 class Summary:
-    """The buckets of a series, as columns."""
+    """The buckets of a series."""
 
     def __init__(self) -> None:
-        self.starts: list[int] = []
-        self.ends: list[int] = []
-        self.counts: list[int] = []
-        self.firsts: list[int] = []
-        self.lasts: list[int] = []
-        self.below: list[int] = []
-        self.above: list[int] = []
+        self.buckets: list[Bucket] = []
 
     def take(self, block: Block) -> None:
         for begin, end in block.buckets():
             values = block.values[begin:end]
-            self.starts.append(block.starts[begin])
-            self.ends.append(block.ends[end - 1])
-            self.counts.append(end - begin)
-            self.firsts.append(values[0])
-            self.lasts.append(values[-1])
-            self.below.append(values[0] - min(values))
-            self.above.append(max(values) - values[0])
+            first, least, greatest = values[0], min(values), max(values)
+            extent = block.starts[begin], block.ends[end - 1]
+            self.buckets.append(Bucket(*extent, end - begin, first, values[-1], first - least, greatest - first))
 
     def text(self) -> str:
         """Of each bucket how far it starts after the one before, its length, its rows, how far its first value is above the last one before
         it, by how much its least and its greatest value differ from its first, and by how much the last is more than that."""
-        changes = [0, *map(operator.sub, self.firsts[1:], self.lasts)]
-        return packed(
-            [
-                *times_of(self.starts, self.ends),
-                self.counts,
-                changes,
-                self.below,
-                self.above,
-                list(map(operator.sub, self.lasts, self.firsts)),
-            ]
-        )
+        starts, ends, counts, firsts, lasts, below, above = zip(*self.buckets)
+        changes = [0, *map(operator.sub, firsts[1:], lasts)]
+        return packed([*times_of(starts, ends), counts, changes, below, above, list(map(operator.sub, lasts, firsts))])
 
 
 def blocks_of(rows: Iterable[Plain]) -> Iterator[Block]:
@@ -127,9 +122,9 @@ def blocks_of(rows: Iterable[Plain]) -> Iterator[Block]:
 def fields_of(blocks: list[tuple[int, int, int]], summary: Summary, episodes: list[tuple[int, int]]) -> dict[str, Any]:
     """What the page has to know of a series beside its texts: of each block its rows, first start and first value; its least value; and of
     its episodes, if it has any, how many there are and the first start. Numbers that JavaScript doesn't read exactly are texts."""
-    least = min(map(operator.sub, summary.firsts, summary.below), default=0)
+    least = min((bucket.first - bucket.below for bucket in summary.buckets), default=0)
     return {
-        "rows": sum(summary.counts),
+        "rows": sum(bucket.rows for bucket in summary.buckets),
         "base": str(least),
         "blocks": [[rows, str(start), str(value)] for rows, start, value in blocks],
         "episodes": [len(episodes), str(episodes[0][0])] if episodes else None,
