@@ -329,7 +329,7 @@ def failing_at(path: str) -> Iterator[None]:
 
 
 def locked(folder: str, command: str) -> IO[str]:
-    """The lock of a folder, in which only one call of a command works: it is held until it is closed. The folder is made if it has to be."""
+    """The lock of a folder, in which only one call of a command works: it is held until it is closed. The folder is made if need be."""
     try:
         os.makedirs(folder, exist_ok=True)
         lock = open(os.path.join(folder, "lock"), "a")
