@@ -16,44 +16,26 @@ if TYPE_CHECKING:
     from .scaling import Scaled, scale
     from .version import VERSION as __version__
 
-__all__ = [
-    "Convention",
-    "Explained",
-    "Live",
-    "Query",
-    "Refused",
-    "Scaled",
-    "TiltError",
-    "__version__",
-    "plot",
-    "run",
-    "scale",
-    "series",
-    "span",
-]
-# The module of each name, and its name there.
-PLACES = {
-    "Convention": ("convention", "Convention"),
-    "Refused": ("errors", "Refused"),
-    "TiltError": ("errors", "TiltError"),
-    "Explained": ("explain", "Explained"),
-    "Live": ("frames", "Live"),
-    "Query": ("frames", "Query"),
-    "run": ("frames", "run"),
-    "series": ("frames", "series"),
-    "span": ("frames", "span"),
-    "plot": ("plotting", "plot"),
-    "Scaled": ("scaling", "Scaled"),
-    "scale": ("scaling", "scale"),
-    "__version__": ("version", "VERSION"),
+__all__ = ["Convention", "Explained", "Live", "Query", "Refused", "Scaled", "TiltError", "__version__"]
+__all__ += ["plot", "run", "scale", "series", "span"]
+# The names of each module.
+NAMES = {
+    "convention": ["Convention"],
+    "errors": ["Refused", "TiltError"],
+    "explain": ["Explained"],
+    "frames": ["Live", "Query", "run", "series", "span"],
+    "plotting": ["plot"],
+    "scaling": ["Scaled", "scale"],
+    "version": ["__version__"],
 }
+PLACES = {name: module for module, names in NAMES.items() for name in names}
 
 
 def __getattr__(name: str) -> Any:
     if name not in PLACES:
         raise AttributeError(f"module {__name__!r} has no attribute {name!r}")
-    module, there = PLACES[name]
-    found = getattr(importlib.import_module(f".{module}", __name__), there)
+    module = importlib.import_module(f".{PLACES[name]}", __name__)
+    found = getattr(module, "VERSION" if name == "__version__" else name)
     globals()[name] = found
     return found
 

@@ -426,7 +426,7 @@ def new_beside(target: str, end: str) -> tuple[int, str]:
     name = os.fsdecode(os.fsencode(name)[:LONGEST_NAME])
     new = os.path.join(folder, f".{name}.{os.urandom(8).hex()}{end}")
     try:
-        mode = stat.S_IMODE(os.stat(target).st_mode) if os.path.exists(target) else 0o666
+        mode = stat.S_IMODE(os.stat(target).st_mode) | 0o600 if os.path.exists(target) else 0o666
         return os.open(new, os.O_RDWR | os.O_CREAT | os.O_EXCL | os.O_NOFOLLOW, mode), new
     except OSError as error:
         raise OSError(error.errno, error.strerror, target) from error
