@@ -20,15 +20,13 @@ import tempfile
 import urllib.parse
 from typing import IO, Any, Iterable, Iterator
 
-from .clock import TIMES, Clock, Moments, duration_of, duration_text, moment_text
+from .clock import TIMES, WHOLE, Clock, Moments, duration_of, duration_text, moment_text
 from .errors import Refused, refused_at
+from .scales import GREATEST, LEAST
 from .version import VERSION
 
 Row = tuple[int, int, "int | None"]
 HEADER = ["start", "end", "value"]
-# How the program spells a number, and the numbers that it takes (`read_number` of crates/tilt_base).
-WHOLE = re.compile(r"[+-]?[0-9]+", re.ASCII)
-SMALLEST, LARGEST = -(2**63), 2**63 - 1
 # How the name of a file ends that has no name of its own yet: in a folder that `scale` sweeps, and elsewhere.
 PLACED = ".tilt-data-new"
 BESIDE = ".tilt-data"
@@ -141,8 +139,8 @@ def whole(text: str) -> int:
     """A number as the program reads it; a ValueError for another text."""
     if text.isdigit() and text.isascii() and len(text) <= 18:
         return int(text)
-    number = int(text) if WHOLE.fullmatch(text) else LARGEST + 1
-    if not SMALLEST <= number <= LARGEST:
+    number = int(text) if WHOLE.fullmatch(text) else GREATEST + 1
+    if not LEAST <= number <= GREATEST:
         raise ValueError(text)
     return number
 

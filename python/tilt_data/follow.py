@@ -31,7 +31,7 @@ import time
 from typing import Any, Iterator, NoReturn
 
 from . import sessions
-from .clock import TIMES, Moments, duration_of, zone_of
+from .clock import TIMES, WHOLE, Moments, duration_of, zone_of
 from .convention import TextConvention
 from .convert import Converter, Late, Tie, row_text
 from .errors import Refused, note, printable
@@ -48,7 +48,6 @@ NAME,start,end,value with ticks, or NAME,time,value with a reading, which become
 output.csv in the folder --state. If it is killed, call it again with the same options: it goes on, and no row of output.csv is lost or
 there twice. Other options that would change rows are rejected. An argument NAME=FILE gives an input whole, from a series file."""
 Taken = dict[str, Any]
-WHOLE = re.compile(r"[+-]?[0-9]+")
 BINDING = re.compile(r"[A-Za-z_]\w*=.+", re.ASCII | re.DOTALL)
 # A line of more bytes than this is bad; no more of it than one byte above is ever held.
 LONGEST = 65536

@@ -11,8 +11,7 @@ import re
 from typing import TYPE_CHECKING, Any
 
 from .errors import Refused
-from .files import LARGEST
-from .scales import MOST_DIGITS, Scale, digits_after_point, factors
+from .scales import GREATEST, MOST_DIGITS, Scale, digits_after_point, factors
 
 if TYPE_CHECKING:
     import pandas
@@ -125,11 +124,11 @@ def scaled(values: Any, known: Any, scale: int) -> Any:
         some = values[at : at + AT_ONCE]
         if some.dtype.kind == "f":
             proved, whole = proofs(some, twos, fives, scale // rest)
-            most = LARGEST // rest
+            most = GREATEST // rest
             proved &= numpy.abs(whole) <= float(min(most, PROVED[8]))
             numbers = numpy.where(proved, whole, 0).astype("i8") * (rest if most else 1)
         else:
-            most = LARGEST // scale
+            most = GREATEST // scale
             proved = (some <= most) & (some >= -most)
             numbers = numpy.where(proved, some, 0).astype("i8") * (scale if most else 1)
         by_text = ~proved if known is None else ~proved & known[at : at + AT_ONCE]
