@@ -124,3 +124,16 @@ module _ (tells : Type 0) where
     rose = tt;
     reads = whole.reads;
   }
+
+  -- all bytes were written, and then the run stops, not by a bad line or a write
+  pub adds-last : {T U : Type 0} (old new : Transcript) (bytes : List ℕ) (why : Stop) (x : U) (result : Result T Stop) → result ≡ Err why → (why ≡ WriteFault → ⊥)
+      → (why ≡ BadLine → ⊥) → Adds tells old new bytes (Ok x) → Adds tells old new bytes result
+  adds-last old new bytes why x result is other bad all = rw is record {
+    whole = λ _. tt;
+    stopped = λ _ e. absurd (bad e);
+    front = λ told. record { front = bytes; rest = []; parts = sym (append-nil bytes); appended = all.whole told };
+    reads_nothing = all.reads_nothing;
+    kept = all.kept;
+    rose = λ e. absurd (other e);
+    reads = all.reads;
+  }

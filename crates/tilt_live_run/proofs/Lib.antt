@@ -1,5 +1,6 @@
 pub mod Adding
 pub mod Beginning
+pub mod KeepingRows
 pub mod Lines
 pub mod Newly
 pub mod Outputs
@@ -10,3 +11,4 @@ pub mod Running
 pub mod Showing
 pub mod Stepping
 pub mod Underway
+pub mod Upto

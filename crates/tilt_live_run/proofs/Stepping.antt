@@ -7,19 +7,22 @@ use Rattle.std.proofs.lemmas.List.{append-nil, take_at}
 use Rattle.std.proofs.lemmas.Option.{none-some, same_Some}
 use Rattle.tilt_compiler.specs.Accepted.{AcceptedParts}
 use Rattle.tilt_core.specs.Core.{CoreParts}
+use Rattle.tilt_feed.specs.Feed.{Feed}
 use Rattle.tilt_feed.specs.Printed.{begun, printed}
 use Rattle.tilt_feed_text.proofs.Saying.{reports-append, reports-stop, stop-append, stop-stop, taken-all, taken-append, taken-stop}
 use Rattle.tilt_feed_text.proofs.Splitting.{lines-append, lines-none, lines-until, unfinished-append, unfinished-until}
 use Rattle.tilt_feed_text.specs.Said.{FeedState, after_line, after_lines, number_after, stops, taken_from}
 use Rattle.tilt_feed_text.specs.Split.{lines_after, unfinished, unfinished_after}
 use Rattle.tilt_feed_text.specs.declared.pending.TheConstants.{LINE}
-use Rattle.tilt_live.specs.Lives.{IsLiveOf}
+use Rattle.tilt_input_state.specs.Resume.{first_read}
+use Rattle.tilt_live.specs.Lives.{IsLiveOf, tick_of_live}
 use Rattle.tilt_live_run.proofs.Adding.{adds-none, adds-short, adds-stopped, adds-then}
 use Rattle.tilt_live_run.proofs.Newly.{news-same}
 use Rattle.tilt_live_run.proofs.Outputs.{news-append}
 use Rattle.tilt_live_run.proofs.Reporting.{reports-none, reports-short, reports-then, reports-whole}
 use Rattle.tilt_live_run.proofs.Running.{number-more, state-more}
 use Rattle.tilt_live_run.specs.Adds.{Adds}
+use Rattle.tilt_live_run.specs.KeptRows.{KeepsRows}
 use Rattle.tilt_live_run.specs.Output.{begun_start, news, news_from}
 use Rattle.tilt_live_run.specs.Reported.{Reports}
 use Rattle.tilt_live_run.specs.Runs.{IsRunAfter, IsRunOf, added, is_stopped, new_lines, number_of, reported, state_after, state_taken}
@@ -205,9 +208,11 @@ module _ {K : Type 0} (tells : Type 0) (written : K → List ℕ) (faults : K �
       → (options.with_begun ≡ true → later.run.shown ≡ begun_start (begun accepted.core (state_taken options accepted.core bytes piece).feed))
       → (later.run.number ≡ run.run.number) × (later.run.with_begun ≡ run.run.with_begun) × (later.run.strict ≡ run.run.strict)
       → (kept_by later.run.watermarks ≡ kept_by run.run.watermarks) × (options_of later.run.watermarks ≡ options_of run.run.watermarks)
+      → ((feed : Feed) → IsLiveOf run.run.live accepted feed given → KeepsRows run.run.rows (first_read accepted.core (tick_of_live run.run.live)) feed
+      → KeepsRows later.run.rows (first_read accepted.core (tick_of_live later.run.live)) feed)
       → later.pending.items ≡ run.pending.items
       → OnOk outcome (IsRunOf later accepted options (bytes ++ piece))
-  taken-shown later (Ok u) taken live begun_is same marks kept =
+  taken-shown later (Ok u) taken live begun_is same marks rows kept =
       let core = accepted.core in
       let all : state_taken options core bytes piece ≡ state_after options core (bytes ++ piece) =
       rw (taken-all options.strict options.watermarks core.inputs (number_of bytes) (state_after options core bytes) (new_lines bytes piece) taken.stop) (sym (state-more options core bytes piece)) in
@@ -220,12 +225,14 @@ module _ {K : Type 0} (tells : Type 0) (written : K → List ℕ) (faults : K �
             number_is = same.0 ∙ taken.goes_on.line_run.number_is ∙ sym (number-more bytes piece);
             with_begun_is = same.1 ∙ taken.goes_on.line_run.with_begun_is;
             strict_is = same.2 ∙ taken.goes_on.line_run.strict_is;
+            rows = subst (λ (s : FeedState). KeepsRows later.run.rows (first_read core (tick_of_live later.run.live)) s.feed)
+                (sym (state-more options core bytes piece)) (rows _ taken.goes_on.line_run.live taken.goes_on.line_run.rows);
           };
           pending = kept ∙ taken.goes_on.pending ∙ ap (take (LINE + 1)) (sym (unfinished-append [] bytes piece));
         };
         begun = λ yes. subst (λ (s : FeedState). later.run.shown ≡ begun_start (begun core s.feed)) all (begun_is yes);
       }
-  taken-shown later (Err e) taken live begun_is same marks kept = tt
+  taken-shown later (Err e) taken live begun_is same marks rows kept = tt
 
 -- a run that is lost wrote nothing
 pub lost-written : {K : Type 0} (port_tells : Type 0) (port : Transcript) (tells : Type 0) (written : K → List ℕ) (faults : K → ℕ) (err err_then : K) (Is : List ℕ → Type 0)

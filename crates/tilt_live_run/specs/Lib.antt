@@ -1,4 +1,6 @@
 pub mod Adds
+pub mod KeptRows
+pub mod Left
 pub mod Output
 pub mod Places
 pub mod Reported

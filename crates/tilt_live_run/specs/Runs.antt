@@ -10,7 +10,9 @@ use Rattle.tilt_feed_text.specs.Said.{FeedState, after_lines, events_of, first_s
 use Rattle.tilt_feed_text.specs.Split.{lines_after, unfinished, whole_lines}
 use Rattle.tilt_feed_text.specs.declared.bad_line.BadLine.TheVariants.{NoEnd}
 use Rattle.tilt_feed_text.specs.declared.pending.TheConstants.{LINE}
-use Rattle.tilt_live.specs.Lives.{IsLive, IsLiveOf}
+use Rattle.tilt_input_state.specs.Resume.{first_read}
+use Rattle.tilt_live.specs.Lives.{IsLive, IsLiveOf, tick_of_live}
+use Rattle.tilt_live_run.specs.KeptRows.{KeepsRows}
 use Rattle.tilt_live_run.specs.Output.{begun_start, news_from}
 use Rattle.tilt_live_run.specs.Places.{place_of}
 use Rattle.tilt_live_run.specs.declared.line_run.LineRun.{LineRun}
@@ -19,7 +21,8 @@ use Rattle.tilt_live_run.specs.declared.run_options.RunOptions.{RunOptions}
 use Rattle.tilt_outside.specs.Counts.{next_count}
 use Rattle.tilt_watermarks.specs.Machine.{kept_by, options_of}
 
--- the run of a query with these options after so many lines, after which its feed is there; so many snapshots were written
+-- the run of a query with these options after so many lines, after which its feed is there; so many snapshots were written. If it keeps
+-- rows, the rest of its output reads no others
 pub record IsLineRunOf (run : LineRun) (accepted : AcceptedParts) (options : RunOptions) (number : ℕ) (state : FeedState) (given : ℕ) : Type 0 where
   pub live : IsLiveOf run.live accepted state.feed given
   pub kept_is : kept_by run.watermarks ≡ state.kept
@@ -27,6 +30,7 @@ pub record IsLineRunOf (run : LineRun) (accepted : AcceptedParts) (options : Run
   pub number_is : run.number ≡ number
   pub with_begun_is : run.with_begun ≡ options.with_begun
   pub strict_is : run.strict ≡ options.strict
+  pub rows : KeepsRows run.rows (first_read accepted.core (tick_of_live run.live)) state.feed
 
 -- the same, and the first bytes of the next line
 pub record IsRunAfter (run : LiveRun) (accepted : AcceptedParts) (options : RunOptions) (number : ℕ) (state : FeedState) (front : List ℕ) (given : ℕ) : Type 0 where

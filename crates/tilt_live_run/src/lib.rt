@@ -9,14 +9,17 @@
 
 mod begun_text;
 mod events;
+mod keep;
 mod law;
 mod line_run;
 mod live_run;
 mod place;
 mod run_options;
 mod shown;
+mod state_rows;
 mod stop;
 
+pub use keep::Keep;
 pub use law::output_is_printed;
 pub use live_run::LiveRun;
 pub use run_options::RunOptions;

@@ -1,12 +1,14 @@
 // The run of a query, line by line.
-ghost use Rattle.std.specs.Prelude.{◌≡◌, ◌++◌, ℕ, [], None, true, false, length, drop, if◌then◌else◌, IfOk, IfErr, OnOk, MatchResult};
+ghost use Rattle.std.specs.Prelude.{◌≡◌, ◌++◌, ℕ, ℤ, [], None, true, false, length, drop, if◌then◌else◌, IfOk, IfErr, OnOk, MatchResult};
 ghost use Rattle.tilt_compiler.specs.Accepted.{AcceptedParts};
 ghost use Rattle.tilt_feed.specs.Feed.{Feed, empty_feed};
 ghost use Rattle.tilt_feed.specs.Printed.{begun, printed};
 ghost use Rattle.tilt_feed_text.specs.Report.{report};
 ghost use Rattle.tilt_feed_text.specs.Said.{FeedState, after_line, first_state, line_fault};
-ghost use Rattle.tilt_live.specs.Lives.{IsLive, IsLiveOf};
+ghost use Rattle.tilt_input_state.specs.Resume.{first_read};
+ghost use Rattle.tilt_live.specs.Lives.{IsLive, IsLiveOf, tick_of_live};
 ghost use Rattle.tilt_live_run.specs.Adds.{Adds};
+ghost use Rattle.tilt_live_run.specs.KeptRows.{KeepsRows, has_rows, needs_rows};
 ghost use Rattle.tilt_live_run.specs.Output.{begun_news, begun_start, first_news};
 ghost use Rattle.tilt_live_run.specs.Reported.{Reported};
 ghost use Rattle.tilt_live_run.specs.Runs.{IsLineRunOf};
@@ -17,8 +19,10 @@ ghost use Rattle.tilt_stream.specs.Text.{lines_of};
 ghost use Rattle.tilt_watermarks.specs.Machine.{kept_by, options_of};
 
 use crate::events::take_said;
+use crate::keep::Keep;
 use crate::run_options::RunOptions;
 use crate::shown::{show_begun, show_final, write_header};
+use crate::state_rows::StateRows;
 use crate::stop::Stop;
 use std::alloc::{AllocError as OutOfMemory, Global};
 use tilt_compiler::Accepted;
@@ -34,6 +38,8 @@ use tilt_watermarks::Watermarks;
 #[derive(Drop)]
 pub(crate) struct LineRun {
     pub(crate) live: Live,
+    // The rows that its state needs, if they are kept.
+    pub(crate) rows: StateRows,
     watermarks: Watermarks,
     reader: LineReader,
     // Room for the events of a line.
@@ -52,16 +58,19 @@ impl LineRun {
         alloc: Global,
         accepted: Accepted,
         options: RunOptions,
+        keep: Keep,
     ) -> Result<LineRun, OutOfMemory>
         ensures is { IfOk result (λ run. IsLineRunOf run accepted options 0 (first_state (length accepted.core.inputs)) 0) }
+        ensures keeps { IfOk result (λ run. has_rows run.rows ≡ needs_rows keep) }
         ensures shown { IfOk result (λ run. run.shown ≡ None) }
         ensures live { IfOk result (λ run. IsLive run.live) }
     {
         let live = Live::new(alloc, accepted)?;
-        let inputs = live.inputs().len() as u32;
+        let inputs = live.inputs().len();
         Ok(LineRun {
             live,
-            watermarks: Watermarks::new(alloc, options.watermarks, inputs)?,
+            rows: StateRows::new(alloc, inputs, keep)?,
+            watermarks: Watermarks::new(alloc, options.watermarks, inputs as u32)?,
             reader: LineReader::new(alloc),
             events: Vec::new(alloc),
             number: 0,
@@ -83,6 +92,11 @@ impl LineRun {
         ensures begun { (accepted : AcceptedParts) → IsLiveOf self.old.live accepted (empty_feed (length accepted.core.inputs)) 0
             → OnOk result (self.old.with_begun ≡ true
             → self.new.shown ≡ begun_start (begun accepted.core (empty_feed (length accepted.core.inputs)))) }
+        ensures rows { (accepted : AcceptedParts) → IsLiveOf self.old.live accepted (empty_feed (length accepted.core.inputs)) 0
+            → KeepsRows self.old.rows (first_read accepted.core (tick_of_live self.old.live)) (empty_feed (length accepted.core.inputs))
+            → OnOk result (KeepsRows self.new.rows (first_read accepted.core (tick_of_live self.new.live))
+            (empty_feed (length accepted.core.inputs))) }
+        ensures keeps { has_rows self.new.rows ≡ has_rows self.old.rows }
         ensures rest { (self.new.number ≡ self.old.number) × (self.new.with_begun ≡ self.old.with_begun)
             × (self.new.strict ≡ self.old.strict) }
         ensures watermarks { (kept_by self.new.watermarks ≡ kept_by self.old.watermarks)
@@ -102,6 +116,7 @@ impl LineRun {
             → HasTakenLine E.tells E.written E.faults err.old err.new (λ n s. IsLineRunOf self.new accepted options n s given)
             (λ s. IsLiveOf self.new.live accepted s.feed given) accepted.core options number state line.now result }
         ensures kept { (self.new.shown ≡ self.old.shown) × (self.new.with_begun ≡ self.old.with_begun) }
+        ensures keeps { has_rows self.new.rows ≡ has_rows self.old.rows }
         ensures no_write_fault { IfErr result (λ stop. stop ≡ Stop.WriteFault → ⊥) }
         ensures live { IsLive self.old.live → IsLive self.new.live }
         ensures takes { (n : ℕ) → E.takes err.new n }
@@ -136,6 +151,12 @@ impl LineRun {
             IfOk result (λ why. (why ≡ line_fault options accepted.core.inputs state self.old.number line.now)
             × (kept_by self.new.watermarks ≡ (after_line options accepted.core.inputs self.old.number line.now state).kept)
             × IsLiveOf self.new.live accepted (after_line options accepted.core.inputs self.old.number line.now state).feed given) }
+        ensures rows { (accepted : AcceptedParts) (state : FeedState) (given : ℕ) (first : ℤ)
+            → IsLiveOf self.old.live accepted state.feed given → kept_by self.old.watermarks ≡ state.kept
+            → KeepsRows self.old.rows first state.feed → let options = options_of self.old.watermarks in
+            OnOk result (KeepsRows self.new.rows first (after_line options accepted.core.inputs self.old.number line.now state).feed) }
+        ensures tick { tick_of_live self.new.live ≡ tick_of_live self.old.live }
+        ensures keeps { has_rows self.new.rows ≡ has_rows self.old.rows }
         ensures watermarks { options_of self.new.watermarks ≡ options_of self.old.watermarks }
         ensures live { IsLive self.old.live → IsLive self.new.live }
         ensures rest { (self.new.number ≡ self.old.number) × (self.new.with_begun ≡ self.old.with_begun)
@@ -145,6 +166,7 @@ impl LineRun {
             Ok(None) => Ok(None),
             Ok(Some(said)) => take_said(
                 &mut self.live,
+                &mut self.rows,
                 &mut self.watermarks,
                 &mut self.events,
                 said,
@@ -154,8 +176,34 @@ impl LineRun {
         }
     }
 
-    // Writes what can be printed and wasn't, and then what has begun, if that is asked for.
+    // Writes what can be printed and wasn't, and then what has begun, if that is asked for. Then it lets go of rows that its state won't need.
     pub(crate) fn show<P: Port>(&mut self, port: &mut P) -> Result<(), Stop>
+        requires live { IsLive self.old.live }
+        ensures adds { (accepted : AcceptedParts) (feed : Feed) (given : ℕ) → IsLiveOf self.old.live accepted feed given
+            → Adds P.tells (P.transcript port.old) (P.transcript port.new) (lines_of (drop given (printed accepted.core feed))
+            ++ (if self.old.with_begun then begun_news self.old.shown (begun accepted.core feed) else [])) result }
+        ensures goes_on { (accepted : AcceptedParts) (feed : Feed) (given : ℕ) → IsLiveOf self.old.live accepted feed given
+            → OnOk result (IsLiveOf self.new.live accepted feed (length (printed accepted.core feed))) }
+        ensures begun { (accepted : AcceptedParts) (feed : Feed) (given : ℕ) → IsLiveOf self.old.live accepted feed given
+            → OnOk result (self.old.with_begun ≡ true → self.new.shown ≡ begun_start (begun accepted.core feed)) }
+        ensures rows { (accepted : AcceptedParts) (feed : Feed) (given : ℕ) → IsLiveOf self.old.live accepted feed given
+            → KeepsRows self.old.rows (first_read accepted.core (tick_of_live self.old.live)) feed
+            → OnOk result (KeepsRows self.new.rows (first_read accepted.core (tick_of_live self.new.live)) feed) }
+        ensures keeps { has_rows self.new.rows ≡ has_rows self.old.rows }
+        ensures no_bad_line { IfErr result (λ stop. stop ≡ Stop.BadLine → ⊥) }
+        ensures rest { (self.new.number ≡ self.old.number) × (self.new.with_begun ≡ self.old.with_begun)
+            × (self.new.strict ≡ self.old.strict) }
+        ensures watermarks { (kept_by self.new.watermarks ≡ kept_by self.old.watermarks)
+            × (options_of self.new.watermarks ≡ options_of self.old.watermarks) }
+        ensures live { IsLive self.new.live }
+    {
+        self.write_news(port)?;
+        self.rows.forget(self.live.first_read())?;
+        Ok(())
+    }
+
+    // Writes what can be printed and wasn't, and then what has begun, if that is asked for.
+    fn write_news<P: Port>(&mut self, port: &mut P) -> Result<(), Stop>
         requires live { IsLive self.old.live }
         ensures adds { (accepted : AcceptedParts) (feed : Feed) (given : ℕ) → IsLiveOf self.old.live accepted feed given
             → Adds P.tells (P.transcript port.old) (P.transcript port.new) (lines_of (drop given (printed accepted.core feed))
@@ -166,7 +214,7 @@ impl LineRun {
             → OnOk result (self.old.with_begun ≡ true → self.new.shown ≡ begun_start (begun accepted.core feed)) }
         ensures no_bad_line { IfErr result (λ stop. stop ≡ Stop.BadLine → ⊥) }
         ensures rest { (self.new.number ≡ self.old.number) × (self.new.with_begun ≡ self.old.with_begun)
-            × (self.new.strict ≡ self.old.strict) }
+            × (self.new.strict ≡ self.old.strict) × (self.new.rows ≡ self.old.rows) }
         ensures watermarks { (kept_by self.new.watermarks ≡ kept_by self.old.watermarks)
             × (options_of self.new.watermarks ≡ options_of self.old.watermarks) }
         ensures live { IsLive self.new.live }

@@ -1,9 +1,12 @@
 // The run of a query, piece by piece.
 ghost use Rattle.std.specs.Prelude.{◌≡◌, ◌++◌, ◌&&◌, ℕ, List, [], true, false};
-ghost use Rattle.std.specs.Prelude.{◌∷◌, None, Some, length, IfOk, IfErr, OnOk, MatchOption, MatchResult};
+ghost use Rattle.std.specs.Prelude.{◌∷◌, ◌↔◌, None, Some, length, IfOk, IfErr, OnOk, MatchOption, MatchResult};
 ghost use Rattle.tilt_compiler.specs.Accepted.{AcceptedParts};
 ghost use Rattle.tilt_feed_text.specs.Said.{FeedState};
+ghost use Rattle.tilt_feed_text.specs.Split.{ended};
 ghost use Rattle.tilt_live_run.specs.Adds.{Adds};
+ghost use Rattle.tilt_live_run.specs.KeptRows.{has_rows};
+ghost use Rattle.tilt_live_run.specs.Left.{KeepsState, state_left};
 ghost use Rattle.tilt_live_run.specs.Output.{first_news};
 ghost use Rattle.tilt_live_run.specs.Reported.{Reported, Reports};
 ghost use Rattle.tilt_live_run.specs.Runs.{IsPlaced, IsRunAfter, IsRunOf, IsSound, added, end_report, is_stopped};
@@ -12,17 +15,22 @@ ghost use Rattle.tilt_live_run.specs.Stepped.{HasStepped, HasTaken, is_lost};
 ghost use Rattle.tilt_live_run.specs.Taken.{HasTakenLine, HasTakenPiece};
 ghost use Rattle.tilt_live_run.specs.declared.run_options.RunOptions.{RunOptions};
 ghost use Rattle.tilt_live.specs.Lives.{IsLiveOf};
+ghost use Rattle.tilt_live_state.specs.Valid.{IsStateOf};
+ghost use Rattle.tilt_syntax.specs.Tree.{StatementTree};
 ghost use Rattle.tilt_text.specs.Cut.{until_at};
 
+use crate::keep::Keep;
 use crate::line_run::LineRun;
 use crate::place::Place;
 use crate::run_options::RunOptions;
 use crate::stop::Stop;
-use std::alloc::Global;
+use std::alloc::{AllocError as OutOfMemory, Global};
 use tilt_compiler::Accepted;
 use tilt_feed_text::{BadLine, append_cut};
+use tilt_live_state::LiveState;
 use tilt_outside::Sink;
 use tilt_port::Port;
+use tilt_syntax::Query;
 use tilt_text::until;
 
 /// The run of a query on the text of its feed. It takes the bytes of the feed, in pieces of any size, and writes what each line makes
@@ -41,15 +49,17 @@ impl LiveRun {
         alloc: Global,
         accepted: Accepted,
         options: RunOptions,
+        keep: Keep,
         port: &mut P,
     ) -> Result<LiveRun, Stop>
         ensures adds { Adds P.tells (P.transcript port.old) (P.transcript port.new) (first_news options.with_begun accepted.core) result }
         ensures is { IfOk result (λ run. IsRunOf run accepted options []) }
         ensures placed { IfOk result (λ run. IsPlaced run []) }
         ensures sound { IfOk result IsSound }
+        ensures keeps { IfOk result (λ run. KeepsState run ↔ (keep ≡ Keep.State)) }
         ensures no_bad_line { IfErr result (λ stop. stop ≡ Stop.BadLine → ⊥) }
     {
-        let mut run = LineRun::new(alloc, accepted, options)?;
+        let mut run = LineRun::new(alloc, accepted, options, keep)?;
         run.begin(port)?;
         Ok(LiveRun {
             run,
@@ -59,6 +69,27 @@ impl LiveRun {
                 unended: 0,
             },
         })
+    }
+
+    /// The run that goes on from a state, of the query of which the state is. It is the run that was left, after the lines that it had
+    /// taken. Nothing is written. `OutOfMemory` comes if memory runs out, and for no other reason.
+    pub fn resume(
+        alloc: Global,
+        accepted: Accepted,
+        options: RunOptions,
+        state: LiveState,
+        keep: Keep,
+    ) -> Result<LiveRun, OutOfMemory>
+        requires valid { IsStateOf accepted.core state }
+        requires same { state.progress.options ≡ options.watermarks }
+        ensures is { IfOk result (λ run. (query : List StatementTree) (bytes : List ℕ) (written : ℕ)
+            → state ≡ state_left options accepted.core query (ended bytes) written → IsRunOf run accepted options (ended bytes)) }
+        ensures placed { IfOk result (λ run. (query : List StatementTree) (bytes : List ℕ) (written : ℕ)
+            → state ≡ state_left options accepted.core query (ended bytes) written → IsPlaced run (ended bytes)) }
+        ensures sound { IfOk result IsSound }
+        ensures keeps { IfOk result (λ run. KeepsState run ↔ (keep ≡ Keep.State)) }
+    {
+        Err(OutOfMemory)
     }
 
     /// Takes the next piece of the feed: it writes what the lines that end in it make final, and reports the bad ones of them. `BadLine`
@@ -82,6 +113,7 @@ impl LiveRun {
             → MatchResult result (λ _. is_stopped options accepted.core bytes piece.now ≡ false)
             (λ stop. stop ≡ Stop.BadLine → is_stopped options accepted.core bytes piece.now ≡ true) }
         ensures placed { (bytes : List ℕ) → IsPlaced self.old bytes → OnOk result (IsPlaced self.new (bytes ++ piece.now)) }
+        ensures keeps { KeepsState self.old → KeepsState self.new }
         ensures sound { IsSound self.new }
         ensures takes { (n : ℕ) → E.takes err.new n }
     {
@@ -104,6 +136,7 @@ impl LiveRun {
             → HasTaken P.tells (P.transcript port.old) (P.transcript port.new) E.tells E.written E.faults err.old err.new
             (λ later. IsRunOf self.new accepted options later) accepted.core options bytes piece.now result }
         ensures placed { (bytes : List ℕ) → IsPlaced self.old bytes → OnOk result (IsPlaced self.new (bytes ++ piece.now)) }
+        ensures keeps { has_rows self.new.run.rows ≡ has_rows self.old.run.rows }
         ensures sound { IsSound self.new }
         ensures takes { (n : ℕ) → E.takes err.new n }
     {
@@ -128,6 +161,7 @@ impl LiveRun {
             → HasStepped P.tells (P.transcript port.old) (P.transcript port.new) E.tells E.written E.faults err.old err.new
             (λ later. IsRunOf self.new accepted options later) accepted.core options bytes piece.now result }
         ensures placed { (bytes : List ℕ) → IsPlaced self.old bytes → OnOk result (IsPlaced self.new (bytes ++ piece.now)) }
+        ensures keeps { has_rows self.new.run.rows ≡ has_rows self.old.run.rows }
         ensures sound { IsSound self.new }
         ensures takes { (n : ℕ) → E.takes err.new n }
     {
@@ -150,6 +184,7 @@ impl LiveRun {
         ensures kept { (self.new.run.shown ≡ self.old.run.shown) × (self.new.run.with_begun ≡ self.old.run.with_begun) }
         ensures no_write_fault { IfErr result (λ stop. stop ≡ Stop.WriteFault → ⊥) }
         ensures placed { (bytes : List ℕ) → IsPlaced self.old bytes → OnOk result (IsPlaced self.new (bytes ++ piece.now)) }
+        ensures keeps { has_rows self.new.run.rows ≡ has_rows self.old.run.rows }
         ensures sound { IsSound self.new }
         ensures takes { (n : ℕ) → E.takes err.new n }
     {
@@ -175,6 +210,7 @@ impl LiveRun {
         ensures kept { (self.new.run.shown ≡ self.old.run.shown) × (self.new.run.with_begun ≡ self.old.run.with_begun) }
         ensures no_write_fault { IfErr result (λ stop. stop ≡ Stop.WriteFault → ⊥) }
         ensures placed { self.new.place ≡ self.old.place }
+        ensures keeps { has_rows self.new.run.rows ≡ has_rows self.old.run.rows }
         ensures sound { IsSound self.new }
         ensures takes { (n : ℕ) → E.takes err.new n }
     {
@@ -202,6 +238,31 @@ impl LiveRun {
             return Ok(());
         }
         self.run.report_next(BadLine::NoEnd, err)
+    }
+
+    /// What it hands on to the next run, if it keeps what that needs: its state after the lines that it has taken, when so many bytes of
+    /// output were written. The bytes of a line whose LF hasn't come yet aren't part of it. `OutOfMemory` comes if memory runs out, or ran
+    /// out in an earlier call of the run.
+    pub fn state(
+        &mut self,
+        alloc: Global,
+        query: Query,
+        written: u64,
+    ) -> Result<LiveState, OutOfMemory>
+        requires sound { IsSound self.old }
+        requires keeps { KeepsState self.old }
+        ensures is { (accepted : AcceptedParts) (options : RunOptions) (bytes : List ℕ) → IsRunOf self.old accepted options bytes
+            → IsPlaced self.old bytes
+            → IfOk result (λ state. state ≡ state_left options accepted.core query (ended bytes) written) }
+        ensures valid { (accepted : AcceptedParts) (options : RunOptions) (bytes : List ℕ) → IsRunOf self.old accepted options bytes
+            → IfOk result (λ state. IsStateOf accepted.core state) }
+        ensures goes_on { (accepted : AcceptedParts) (options : RunOptions) (bytes : List ℕ) → IsRunOf self.old accepted options bytes
+            → OnOk result (IsRunOf self.new accepted options bytes) }
+        ensures placed { (bytes : List ℕ) → IsPlaced self.old bytes → IsPlaced self.new bytes }
+        ensures still_keeps { KeepsState self.new }
+        ensures still_sound { IsSound self.new }
+    {
+        Err(OutOfMemory)
     }
 }
 

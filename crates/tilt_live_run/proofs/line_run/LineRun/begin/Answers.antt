@@ -21,3 +21,7 @@ returns-clause-goes_on g c = λ accepted is.
 pub returns-clause-begun : goal.returns-clause-begun
 returns-clause-begun g c = λ accepted is.
     c.show.ensures.begun accepted (empty_feed (length accepted.core.inputs)) 0 is
+
+pub returns-clause-rows : goal.returns-clause-rows
+returns-clause-rows g c = λ accepted is keeps.
+    c.show.ensures.rows accepted (empty_feed (length accepted.core.inputs)) 0 is keeps

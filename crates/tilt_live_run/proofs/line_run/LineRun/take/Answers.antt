@@ -3,6 +3,8 @@ use Rattle.std.proofs.Math.Bool.{and-false}
 use Rattle.std.proofs.lemmas.Result.{err_from_is_err_and}
 use Rattle.tilt_feed_text.specs.Report.{report_of}
 use Rattle.tilt_feed_text.specs.Said.{line_fault, stops}
+use Rattle.tilt_input_state.specs.Resume.{first_read}
+use Rattle.tilt_live.specs.Lives.{tick_of_live}
 use Rattle.tilt_live_run.proofs.Lines.{line-stopped, line-taken}
 use Rattle.tilt_live_run.proofs.Pieces.{line-refused}
 use Rattle.tilt_live_run.proofs.Reporting.{reported-none}
@@ -41,6 +43,8 @@ returns-clause-taken g c = λ accepted options number state given is.
           rw (w.err-is, sym taken.0 ∙ w.in-Some.is) (rw (rest.0, is.number_is) at w.in_ok-report_next.ensures.reported)
       | in_default w ↦ rw (w.err-is, sym taken.0 ∙ w.in_default.is) (reported-none _ _ _ _)
     ] in
+    let rows = rw (is.number_is, is.watermarks_are, ← c.in_ok-why.ensures.tick)
+    at (c.in_ok-why.ensures.rows accepted state given (first_read accepted.core (tick_of_live c.args.self.now.live)) is.live is.kept_is is.rows) in
     line-taken _ _ _ accepted.core options _ _ _ _ number state c.args.line.now goes told
     (record {
       live = taken.2;
@@ -49,4 +53,5 @@ returns-clause-taken g c = λ accepted options number state given is.
       number_is = c.saturating_add-self.ensures ∙ rw (rest.0, is.number_is) refl;
       with_begun_is = rest.1 ∙ is.with_begun_is;
       strict_is = rest.2 ∙ is.strict_is;
+      rows = rows;
     })

@@ -1,6 +1,7 @@
 use Rattle.std.proofs.Common.{◌∙◌, ap, Err}
 use Rattle.std.proofs.lemmas.Result.{err_from_is_err_and}
 use Rattle.tilt_live_run.proofs.Adding.{adds-again, adds-value}
+use Rattle.tilt_live_run.proofs.KeepingRows.{needs-state}
 use Rattle.tilt_live_run.proofs.live_run.LiveRun.start.Goals as goal
 
 pub returns-in_err-begin-clause-adds : goal.returns-in_err-begin-clause-adds
@@ -29,8 +30,13 @@ returns-clause-is g c =
           number_is = rest.0 ∙ made.number_is;
           with_begun_is = rest.1 ∙ made.with_begun_is;
           strict_is = rest.2 ∙ made.strict_is;
+          rows = c.in_ok-begin.ensures.rows c.args.accepted made.live made.rows;
         };
         pending = c.new-2.ensures.items;
       };
       begun = λ on. c.in_ok-begin.ensures.begun c.args.accepted made.live (made.with_begun_is ∙ on);
     }
+
+pub returns-clause-keeps : goal.returns-clause-keeps
+returns-clause-keeps g c =
+    needs-state c.args.keep _ (c.begin.ensures.keeps ∙ c.in_ok-run.ensures.keeps)

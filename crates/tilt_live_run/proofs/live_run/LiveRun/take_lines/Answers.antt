@@ -1,4 +1,4 @@
-use Rattle.std.proofs.Common.{◌∙◌, ◌++◌, ◌∷◌, [], ap, Err}
+use Rattle.std.proofs.Common.{◌∙◌, ◌++◌, ◌∷◌, [], ap, refl, Err}
 use Rattle.std.proofs.lemmas.Result.{err_from_is_err_and}
 use Rattle.tilt_live_run.proofs.Pieces.{ok-into}
 use Rattle.tilt_live_run.proofs.Placing.{passing-first, passing-part, passing-whole}
@@ -11,6 +11,7 @@ loop-line-init g c = record {
   takes = c.requires.lines;
   sound = c.requires.sound;
   placed = λ bytes is. passing-first bytes c.args.piece.now c.args.self.now.place is;
+  keeps = refl;
   of = λ accepted options bytes is. along-first _ _ _ _ accepted options _ _ bytes _ c.args.self.now is;
 }
 
@@ -41,6 +42,7 @@ loop-line-preserved g c = record {
       let found = c.in-Some.ensures in
       passing-part bytes c.args.piece.now c.loop-line.self.place c.step.new.self.place c.loop-line.rest.now (found.0 ++ 10 ∷ []) c.in-Some.after.now
       (line-then c.loop-line.rest.now found.0 c.in-Some.after.now found.1) passing (rw found.2 at (c.in_ok-step.ensures.placed (bytes ++ passing.done) passing.is));
+  keeps = c.step.ensures.keeps ∙ c.loop-line.invariant.keeps;
   of = λ accepted options bytes is.
       let along = c.loop-line.invariant.of accepted options bytes is in
       let found = c.in-Some.ensures in

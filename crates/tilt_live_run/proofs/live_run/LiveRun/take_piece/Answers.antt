@@ -14,6 +14,7 @@ loop-line-init g c = record {
   takes = c.requires.lines;
   sound = c.requires.sound;
   placed = λ bytes is. passing-first bytes c.args.piece.now c.args.self.now.place is;
+  keeps = refl;
   shown = refl;
   with_begun = refl;
   of = λ accepted options number state front given is. underway-first _ _ _ accepted options given _ number state front _ c.args.self.now is;
@@ -46,6 +47,7 @@ loop-line-preserved g c = record {
   placed = λ bytes is.
       passing-line bytes c.args.piece.now c.loop-line.self.place _ c.loop-line.rest.now c.in-Some.line.now c.in-Some.after.now c.in-Some.ensures
       (c.pass_line-self.ensures ∙ ap (λ (p : Place). passed_line p (length c.in-Some.line.now)) c.take_end.ensures.placed) (c.loop-line.invariant.placed bytes is);
+  keeps = c.take_end.ensures.keeps ∙ c.loop-line.invariant.keeps;
   shown = c.take_end.ensures.kept.0 ∙ c.loop-line.invariant.shown;
   with_begun = c.take_end.ensures.kept.1 ∙ c.loop-line.invariant.with_begun;
   of = λ accepted options number state front given is.
