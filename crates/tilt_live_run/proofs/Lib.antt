@@ -1,6 +1,7 @@
 pub mod Adding
 pub mod Beginning
 pub mod KeepingRows
+pub mod Leaving
 pub mod Lines
 pub mod Newly
 pub mod Outputs

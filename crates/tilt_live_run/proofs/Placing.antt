@@ -85,3 +85,12 @@ pub passing-end : (bytes piece : List ℕ) (place later : Place) (rest : List �
 passing-end bytes piece place later rest none is passing =
     passing-whole bytes piece place later rest passing
     (is ∙ ap (λ (p : Place). passed p (length rest)) passing.is ∙ sym (place-rest (bytes ++ passing.done) rest none))
+
+-- after the bytes of its lines
+pub place-ended : (bytes : List ℕ) (count : ℕ) → count ≡ added_count 0 (length (ended bytes))
+    → ◌≡◌ {A = Place} (record { ended = count; unended = 0 }) (place_of (ended bytes))
+place-ended bytes count is =
+    let front = ended bytes in
+    let none : unfinished front ≡ [] = (are-ended bytes).none in
+    let again : front ≡ ended front = sym (are-ended front).parts ∙ ap (λ (t : List ℕ). ended front ++ t) none ∙ append-nil (ended front) in
+    same-place _ _ _ _ (is ∙ ap (λ (t : List ℕ). added_count 0 (length t)) again) (ap (λ (t : List ℕ). added_count 0 (length t)) (sym none))

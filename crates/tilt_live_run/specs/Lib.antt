@@ -1,4 +1,5 @@
 pub mod Adds
+pub mod Joined
 pub mod KeptRows
 pub mod Left
 pub mod Output

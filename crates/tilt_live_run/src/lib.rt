@@ -5,10 +5,14 @@
 //! of `LiveRun::take` say that after a piece it is the run after the bytes with the piece (`goes_on`). They also say that exactly what the
 //! lines of the piece add was written (`adds`, by `specs/Output`), and that exactly the bad ones of them were reported (`reports`). So it
 //! doesn't matter how the feed was cut into pieces.
+//!
+//! A run that keeps what its state needs hands it on by `LiveRun::state`: exactly what `specs/Left` says of the bytes of its lines. The
+//! clauses of `LiveRun::resume` say that it makes of that state the run after these bytes, which goes on as the other would have.
 #![tactic(auto)]
 
 mod begun_text;
 mod events;
+mod inputs;
 mod keep;
 mod law;
 mod line_run;

@@ -1,5 +1,5 @@
 // The run of a query, line by line.
-ghost use Rattle.std.specs.Prelude.{◌≡◌, ◌++◌, ℕ, ℤ, [], None, true, false, length, drop, if◌then◌else◌, IfOk, IfErr, OnOk, MatchResult};
+ghost use Rattle.std.specs.Prelude.{◌≡◌, Option, map, ◌++◌, ℕ, ℤ, [], None, true, false, length, drop, if◌then◌else◌, IfOk, IfErr, OnOk, MatchResult};
 ghost use Rattle.tilt_compiler.specs.Accepted.{AcceptedParts};
 ghost use Rattle.tilt_feed.specs.Feed.{Feed, empty_feed};
 ghost use Rattle.tilt_feed.specs.Printed.{begun, printed};
@@ -9,6 +9,7 @@ ghost use Rattle.tilt_input_state.specs.Resume.{first_read};
 ghost use Rattle.tilt_live.specs.Lives.{IsLive, IsLiveOf, tick_of_live};
 ghost use Rattle.tilt_live_run.specs.Adds.{Adds};
 ghost use Rattle.tilt_live_run.specs.KeptRows.{KeepsRows, has_rows, needs_rows};
+ghost use Rattle.tilt_live_run.specs.Left.{each_left, inputs_left, progress_of};
 ghost use Rattle.tilt_live_run.specs.Output.{begun_news, begun_start, first_news};
 ghost use Rattle.tilt_live_run.specs.Reported.{Reported};
 ghost use Rattle.tilt_live_run.specs.Runs.{IsLineRunOf};
@@ -16,23 +17,33 @@ ghost use Rattle.tilt_live_run.specs.Taken.{HasTakenLine};
 ghost use Rattle.tilt_live_run.specs.declared.run_options.RunOptions.{RunOptions};
 ghost use Rattle.tilt_outside.specs.Counts.{next_count};
 ghost use Rattle.tilt_stream.specs.Text.{lines_of};
+ghost use Rattle.tilt_live.specs.Resuming.{IsLeft};
+ghost use Rattle.tilt_live_state.specs.State.{feed_of, kept_of};
+ghost use Rattle.tilt_live_state.specs.Valid.{IsStateOf};
+ghost use Rattle.tilt_engine.specs.Engines.{begun_pair};
+ghost use Rattle.tilt_feed.specs.Printed.{Begun};
+ghost use Rattle.tilt_watermarks.specs.Laws.{IsKeptOf};
 ghost use Rattle.tilt_watermarks.specs.Machine.{kept_by, options_of};
 
 use crate::events::take_said;
+use crate::inputs::{join_inputs, kept_state, known_inputs};
 use crate::keep::Keep;
 use crate::run_options::RunOptions;
 use crate::shown::{show_begun, show_final, write_header};
 use crate::state_rows::StateRows;
 use crate::stop::Stop;
 use std::alloc::{AllocError as OutOfMemory, Global};
+use tilt_base::Cell;
 use tilt_compiler::Accepted;
 use tilt_feed::Event;
 use tilt_feed_line::LineReader;
 use tilt_feed_text::{BadLine, ReadContentFault, put_report, read_content};
 use tilt_live::Live;
+use tilt_live_state::{InputState, LiveState, Progress};
 use tilt_outside::Sink;
 use tilt_port::Port;
-use tilt_watermarks::Watermarks;
+use tilt_syntax::Query;
+use tilt_watermarks::{KeptState, Watermarks};
 
 // The live engine of a query, and what was taken and written by it.
 #[derive(Drop)]
@@ -77,6 +88,42 @@ impl LineRun {
             with_begun: options.with_begun,
             strict: options.strict,
             shown: None,
+        })
+    }
+
+    // The run that goes on from a state of its query.
+    pub(crate) fn resume(
+        alloc: Global,
+        accepted: Accepted,
+        options: RunOptions,
+        state: &LiveState,
+        keep: Keep,
+    ) -> Result<LineRun, OutOfMemory>
+        requires valid { IsStateOf accepted.core state.now }
+        requires same { state.now.progress.options ≡ options.watermarks }
+        ensures is { IfOk result (λ run. (feeds : FeedState)
+            → IsLeft accepted.core feeds.feed state.now.progress.from state.now.progress.finished (map feed_of state.now.inputs)
+            → kept_of state.now ≡ feeds.kept
+            → IsLineRunOf run accepted options state.now.progress.lines feeds (length (printed accepted.core feeds.feed))) }
+        ensures shown { IfOk result (λ run. run.shown ≡ state.now.progress.shown) }
+        ensures keeps { IfOk result (λ run. has_rows run.rows ≡ needs_rows keep) }
+        ensures live { IfOk result (λ run. IsLive run.live) }
+    {
+        // That it has few inputs is known from here on.
+        let _core = accepted.core();
+        let progress = state.progress;
+        let known = known_inputs(alloc, &state.inputs)?;
+        let kept = kept_state(alloc, progress, &state.inputs)?;
+        Ok(LineRun {
+            live: Live::resume(alloc, accepted, progress.from, progress.finished, &known)?,
+            rows: StateRows::of(alloc, &known, keep)?,
+            watermarks: Watermarks::resume(alloc, options.watermarks, &kept)?,
+            reader: LineReader::new(alloc),
+            events: Vec::new(alloc),
+            number: progress.lines,
+            with_begun: options.with_begun,
+            strict: options.strict,
+            shown: progress.shown,
         })
     }
 
@@ -224,5 +271,75 @@ impl LineRun {
             self.shown = show_begun(&mut self.live, self.shown, port)?;
         }
         Ok(())
+    }
+
+    // What it hands on, if it keeps what that needs, when this many bytes of its feed were taken and this many bytes of output written.
+    pub(crate) fn state(
+        &mut self,
+        alloc: Global,
+        query: Query,
+        bytes: u64,
+        written: u64,
+    ) -> Result<LiveState, OutOfMemory>
+        requires live { IsLive self.old.live }
+        requires keeps { has_rows self.old.rows ≡ true }
+        ensures is { (accepted : AcceptedParts) (options : RunOptions) (number : ℕ) (state : FeedState)
+            → IsLineRunOf self.old accepted options number state (length (printed accepted.core state.feed))
+            → IsKeptOf options.watermarks.lateness state.kept state.feed
+            → IfOk result (λ left. left ≡ record {
+              query = query;
+              progress = progress_of options accepted.core state bytes number written;
+              inputs = inputs_left accepted.core state;
+            }) }
+        ensures goes_on { (accepted : AcceptedParts) (options : RunOptions) (number : ℕ) (state : FeedState)
+            → IsLineRunOf self.old accepted options number state (length (printed accepted.core state.feed))
+            → OnOk result (IsLineRunOf self.new accepted options number state (length (printed accepted.core state.feed))) }
+        ensures shown { self.new.shown ≡ self.old.shown }
+        ensures still_keeps { has_rows self.new.rows ≡ true }
+        ensures live { IsLive self.new.live }
+    {
+        let shown = start_of(self.live.begun()?);
+        let kept = self.watermarks.kept(alloc)?;
+        let inputs = self.inputs_left(alloc, &kept)?;
+        Ok(LiveState {
+            query,
+            progress: Progress {
+                options: self.watermarks.options(),
+                bytes,
+                lines: self.number,
+                written,
+                from: self.live.resume_tick(),
+                shown,
+                finished: kept.finished,
+                greatest: kept.greatest,
+                latest: kept.latest,
+            },
+            inputs,
+        })
+    }
+
+    // What is left of each input, of which the watermarks keep this. Of a finished feed no row is needed.
+    fn inputs_left(&self, alloc: Global, kept: &KeptState) -> Result<Vec<InputState>, OutOfMemory>
+        requires { has_rows self.now.rows ≡ true }
+        ensures { (accepted : AcceptedParts) (feed : Feed) (lateness : Option ℕ)
+            → IsLiveOf self.now.live accepted feed (length (printed accepted.core feed))
+            → KeepsRows self.now.rows (first_read accepted.core (tick_of_live self.now.live)) feed → IsKeptOf lateness kept.now feed
+            → IfOk result (λ inputs. inputs.items ≡ each_left accepted.core feed feed.inputs kept.now.inputs) }
+    {
+        if kept.finished {
+            return join_inputs(alloc, &[], &kept.inputs);
+        }
+        let known = self.rows.inputs(alloc, self.live.first_read())?;
+        join_inputs(alloc, &known, &kept.inputs)
+    }
+}
+
+// Where something has begun, if something has.
+fn start_of(begun: Option<(i64, Cell)>) -> Option<i64>
+    ensures { (found : Option Begun) → begun ≡ begun_pair found → result ≡ begun_start found }
+{
+    match begun {
+        Some((start, _)) => Some(start),
+        None => None,
     }
 }

@@ -89,7 +89,15 @@ impl LiveRun {
         ensures sound { IfOk result IsSound }
         ensures keeps { IfOk result (λ run. KeepsState run ↔ (keep ≡ Keep.State)) }
     {
-        Err(OutOfMemory)
+        let run = LineRun::resume(alloc, accepted, options, &state, keep)?;
+        Ok(LiveRun {
+            run,
+            pending: Vec::new(alloc),
+            place: Place {
+                ended: state.progress.bytes,
+                unended: 0,
+            },
+        })
     }
 
     /// Takes the next piece of the feed: it writes what the lines that end in it make final, and reports the bad ones of them. `BadLine`
@@ -262,7 +270,7 @@ impl LiveRun {
         ensures still_keeps { KeepsState self.new }
         ensures still_sound { IsSound self.new }
     {
-        Err(OutOfMemory)
+        self.run.state(alloc, query, self.place.ended, written)
     }
 }
 
