@@ -1,0 +1,74 @@
+-- The interval of each expression of a query, and the first expression that can leave 64 bits.
+use Rattle.std.specs.Prelude.{ℕ, zero, suc, ◌+◌, ℤ, pos, ◌+ℤ◌, List, [], ◌∷◌, ◌++◌, length, Option, Some, None, Result, Ok, Err, MatchResult, ◌≡◌, ⊤}
+use Rattle.std.specs.Int.{int_gap}
+use Rattle.std.specs.List.{slice_index_or}
+use Rattle.tilt_base.specs.Expression.{Leaf, One, Two, If}
+use Rattle.tilt_base.specs.Number.{within_64_bits}
+use Rattle.tilt_core.specs.CoreTree.{Const, Read, Reduce, CoreTree, Definition, nodes}
+use Rattle.tilt_magnitudes.specs.Interval.{Interval, only, hull, interval1, interval2, interval_reduced}
+use Rattle.tilt_magnitudes.specs.declared.overflow.Overflow.{Overflow}
+use Rattle.tilt_magnitudes.specs.declared.fault.MagnitudeFault.{MagnitudeFault}
+use Rattle.tilt_magnitudes.specs.declared.fault.MagnitudeFault.TheVariants as fault
+use Rattle.tilt_magnitudes.specs.declared.place.Place.{Place}
+
+-- goes on with a result, unless there is an overflow
+abbrev pub and_then : {A B : Type 0} → Result A Overflow → (A → Result B Overflow) → Result B Overflow
+and_then (Ok a) next = next a
+and_then (Err overflow) next = Err overflow
+
+-- the interval of an expression at a place, if 64 bits hold both of its ends
+abbrev pub if_both : Place → Interval → Option ℤ → Option ℤ → Result Interval Overflow
+if_both place i (Some low) (Some high) = Ok (record { low = low; high = high })
+if_both place i None high = Err (record { place = place; bounds = i })
+if_both place i (Some low) None = Err (record { place = place; bounds = i })
+
+abbrev pub narrowed : Place → Interval → Result Interval Overflow
+narrowed place i = if_both place i (within_64_bits i.low) (within_64_bits i.high)
+
+-- the place that is so many nodes later
+abbrev pub later : Place → ℕ → Place
+later place count = record { definition = place.definition; node = place.node + count }
+
+-- the interval of the source with a number; one that isn't known is null, so that any interval is right
+abbrev pub interval_at : List Interval → ℕ → Interval
+interval_at sources number = slice_index_or sources number (only (pos 0))
+
+-- the interval of an expression at a place, over sources within intervals; or the first node that can leave 64 bits. Operands come before
+-- their operator, from left to right. A window meets at most as many snapshots as it has ticks
+abbrev pub magnitude : List Interval → Place → CoreTree → Result Interval Overflow
+magnitude sources place (Leaf (Const number)) = Ok (only number)
+magnitude sources place (Leaf (Read source offset)) = Ok (interval_at sources source)
+magnitude sources place (Leaf (Reduce reducer source from to)) =
+    narrowed place (interval_reduced reducer (int_gap from to) (interval_at sources source))
+magnitude sources place (One op a) =
+    and_then (magnitude sources (later place 1) a) (λ x. narrowed place (interval1 op x))
+magnitude sources place (Two op a b) =
+    and_then (magnitude sources (later place 1) a) (λ x. and_then (magnitude sources (later place (1 + nodes a)) b)
+    (λ y. narrowed place (interval2 op x y)))
+magnitude sources place (If c a b) =
+    and_then (magnitude sources (later place 1) c) (λ z. and_then (magnitude sources (later place (1 + nodes c)) a)
+    (λ x. and_then (magnitude sources (later place (1 + nodes c + nodes a)) b) (λ y. narrowed place (hull x y))))
+
+-- the first node of a definition's body
+abbrev pub start_of : ℕ → Place
+start_of number = record { definition = number; node = 0 }
+
+-- the intervals of sources, and of more definitions, of which the first has a number; each is over the sources before it. A grid and a
+-- span change no value, so that a definition has the interval of its body
+abbrev pub more_magnitudes : ℕ → List Interval → List Definition → Result (List Interval) Overflow
+more_magnitudes number sources [] = Ok sources
+more_magnitudes number sources (def ∷ defs) =
+    and_then (magnitude sources (start_of number) def.body) (λ i. more_magnitudes (suc number) (sources ++ i ∷ []) defs)
+
+-- the intervals of the sources of a query, if the inputs are within these: the inputs in order, then the definitions
+abbrev pub magnitudes : List Interval → List Definition → Result (List Interval) Overflow
+magnitudes inputs defs = more_magnitudes 0 inputs defs
+
+-- a fault has this overflow, or it is out of memory
+abbrev pub IsFault : {A : Type 0} → Result A Overflow → MagnitudeFault → Type 0
+IsFault answer (fault.CanOverflow overflow) = answer ≡ Err overflow
+IsFault answer fault.OutOfMemory = ⊤
+
+-- that result is given, unless memory ran out
+abbrev pub Gives : {A B : Type 0} → (A → B) → Result A MagnitudeFault → Result B Overflow → Type 0
+Gives seen given answer = MatchResult given (λ a. answer ≡ Ok (seen a)) (λ f. IsFault answer f)
