@@ -1,7 +1,9 @@
 -- What the code computes, as the definitions have it.
-use Rattle.std.proofs.Common.{◌≡◌, ℕ, ◌-◌, ◌≤◌, ◌^◌, ℤ, pos, negsuc, neg_ℤ, ◌+ℤ◌, ◌-ℤ◌, ◌*ℤ◌, ◌≤ℤ◌, ◌<ℤ◌, true, false, int_le, SFits, w64, to_z, of_z, FitsSigned, unsigned_abs, refl, sym, ap, ◌∙◌, subst, arith}
+use Rattle.std.proofs.Common.{List, [], ◌∷◌, length, get_or, zero, suc, ◌<◌, ◌≡◌, ℕ, ◌-◌, ◌≤◌, ◌^◌, ℤ, pos, negsuc, neg_ℤ, ◌+ℤ◌, ◌-ℤ◌, ◌*ℤ◌, ◌≤ℤ◌, ◌<ℤ◌, true, false, int_le, SFits, w64, to_z, of_z, FitsSigned, unsigned_abs, refl, sym, ap, ◌∙◌, subst, arith}
 use Rattle.std.specs.Int.{w128}
 use Rattle.std.proofs.lemmas.Int.{ints, fits_signed_mul}
+use Rattle.tilt_core.specs.Core.{AreDefinitions}
+use Rattle.tilt_core.specs.CoreTree.{Definition, nodes}
 use Rattle.tilt_magnitudes.specs.Interval.{Interval, hull, quotient, quotient_above, quotient_below}
 
 size_below : (z : ℤ) (k : ℕ) → neg_ℤ (pos k) ≤ℤ z → z ≤ℤ pos k → unsigned_abs z ≤ k
@@ -24,3 +26,10 @@ second_quotient a b h g = rw (h, g) refl
 pub third_quotient : (a b : Interval) → int_le (pos 0) b.low ≡ false → int_le b.high (pos 0) ≡ false
     → hull (quotient_above a b) (quotient_below a b) ≡ quotient a b
 third_quotient a b h g = rw (h, g) refl
+
+-- the definition at a place has at most 256 nodes
+pub small_at : (before k : ℕ) (defs : List Definition) (def : Definition) → AreDefinitions before defs → k < length defs
+    → def ≡ get_or defs k def → nodes def.body ≤ 256
+small_at before k [] def all among is = absurd (omega arith)
+small_at before zero (d ∷ defs) def all among is = subst (λ (x : Definition). nodes x.body ≤ 256) (sym is) all.0.small
+small_at before (suc k) (d ∷ defs) def all among is = small_at (suc before) k defs def all.1 (omega arith) is

@@ -1,5 +1,8 @@
 mod Computed
+mod Meaning
+mod Narrowed
 pub mod Products
 pub mod Quotients
 pub mod Scalars
 pub mod Sums
+mod Windows

@@ -1,2 +1,3 @@
 pub mod Interval
+pub mod Law
 pub mod Magnitude

@@ -53,12 +53,15 @@ magnitude sources place (If c a b) =
 abbrev pub start_of : ℕ → Place
 start_of number = record { definition = number; node = 0 }
 
--- the intervals of sources, and of more definitions, of which the first has a number; each is over the sources before it. A grid and a
--- span change no value, so that a definition has the interval of its body
+-- the intervals of sources, and of one more definition, which has a number. A grid and a span change no value, so that a definition has the
+-- interval of its body
+abbrev pub next_magnitudes : ℕ → List Interval → Definition → Result (List Interval) Overflow
+next_magnitudes number sources def = and_then (magnitude sources (start_of number) def.body) (λ i. Ok (sources ++ i ∷ []))
+
+-- and of more definitions, of which the first has a number; each is over the sources before it
 abbrev pub more_magnitudes : ℕ → List Interval → List Definition → Result (List Interval) Overflow
 more_magnitudes number sources [] = Ok sources
-more_magnitudes number sources (def ∷ defs) =
-    and_then (magnitude sources (start_of number) def.body) (λ i. more_magnitudes (suc number) (sources ++ i ∷ []) defs)
+more_magnitudes number sources (def ∷ defs) = and_then (next_magnitudes number sources def) (λ next. more_magnitudes (suc number) next defs)
 
 -- the intervals of the sources of a query, if the inputs are within these: the inputs in order, then the definitions
 abbrev pub magnitudes : List Interval → List Definition → Result (List Interval) Overflow

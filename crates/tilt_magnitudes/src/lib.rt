@@ -5,10 +5,14 @@ mod arithmetic;
 mod expression;
 mod fault;
 mod interval;
+mod law;
 mod overflow;
 mod place;
+mod query;
 
 pub use fault::MagnitudeFault;
 pub use interval::{Interval, WideInterval};
+pub use law::values_stay_within_bounds;
 pub use overflow::Overflow;
 pub use place::Place;
+pub use query::magnitudes;

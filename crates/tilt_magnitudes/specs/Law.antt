@@ -1,0 +1,24 @@
+-- The law of bounds: rows within the intervals of the inputs give values within the intervals of all sources.
+use Rattle.std.specs.Prelude.{ℕ, ℤ, List, length}
+use Rattle.std.specs.List.{AllByRecursion, AllZip}
+use Rattle.tilt_core.specs.Meaning.{source_of}
+use Rattle.tilt_magnitudes.specs.Interval.{Interval, BoundsCell}
+use Rattle.tilt_magnitudes.specs.Magnitude.{interval_at}
+use Rattle.tilt_stream.specs.Snap.{Snapshot}
+use Rattle.tilt_stream.specs.Stream.{Stream}
+
+-- each cell of a stream is null or a number of the interval
+abbrev pub BoundsStream : Interval → Stream → Type 0
+BoundsStream i x = (tick : ℤ) → BoundsCell i (x.cell tick)
+
+-- the same of each source and its interval
+abbrev pub BoundSources : List Interval → List Stream → Type 0
+BoundSources sources xs = (number : ℕ) → BoundsStream (interval_at sources number) (source_of xs number)
+
+-- the values of rows are null or numbers of the interval
+abbrev pub BoundsRows : Interval → List Snapshot → Type 0
+BoundsRows i rows = AllByRecursion (λ (row : Snapshot). BoundsCell i row.value) rows
+
+-- the same of each input and its interval
+abbrev pub BoundInputs : List Interval → List (List Snapshot) → Type 0
+BoundInputs inputs rows = AllZip BoundsRows inputs rows

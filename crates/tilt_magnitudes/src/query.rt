@@ -1,0 +1,75 @@
+// The intervals of all sources of a query.
+ghost use Rattle.std.specs.Prelude.{◌≡◌, ◌≤◌, ◌++◌, [], ◌∷◌, length, IfOk, OnOk};
+ghost use Rattle.tilt_core.specs.CoreTree.{nodes};
+ghost use Rattle.tilt_core.specs.Core.{AreDefinitions};
+ghost use Rattle.tilt_magnitudes.specs.Magnitude.{Gives, magnitudes, next_magnitudes};
+
+use crate::expression::magnitude;
+use crate::fault::MagnitudeFault;
+use crate::interval::Interval;
+use crate::place::Place;
+use std::alloc::{AllocError as OutOfMemory, Global};
+use tilt_core::{Core, Def};
+
+/// The intervals of the sources of a query, if the values of its inputs are within these intervals: the inputs in order, then the
+/// definitions. Otherwise the first expression that can leave 64 bits.
+pub fn magnitudes(
+    alloc: Global,
+    inputs: &[Interval],
+    core: &Core,
+) -> Result<Vec<Interval>, MagnitudeFault>
+    ensures { Gives (λ all. all.items) result (magnitudes inputs.now core.now.defs) }
+{
+    let defs = core.defs();
+    magnitudes_of(alloc, inputs, core.inputs().len(), defs)
+}
+
+// The same of definitions that follow a number of sources.
+fn magnitudes_of(
+    alloc: Global,
+    inputs: &[Interval],
+    before: usize,
+    defs: &[Def],
+) -> Result<Vec<Interval>, MagnitudeFault>
+    requires few { length defs.now ≤ 256 }
+    requires definitions { AreDefinitions before defs.now }
+    ensures { Gives (λ all. all.items) result (magnitudes inputs.now defs.now) }
+{
+    let mut all = copied(alloc, inputs)?;
+    for place in 0..defs.len() {
+        push_magnitude(&mut all, place as u32, &defs[place])?;
+    }
+    Ok(all)
+}
+
+// The intervals in a list of its own.
+fn copied(alloc: Global, inputs: &[Interval]) -> Result<Vec<Interval>, OutOfMemory>
+    ensures { IfOk result (λ all. all.items ≡ inputs.now) }
+{
+    let mut all = Vec::new(alloc);
+    for interval in inputs {
+        all.push(*interval)?;
+    }
+    Ok(all)
+}
+
+// Adds the interval of a definition, which has a number.
+fn push_magnitude(all: &mut Vec<Interval>, number: u32, def: &Def) -> Result<(), MagnitudeFault>
+    requires { nodes def.now.body ≤ 256 }
+    ensures { Gives (λ _. all.new.items) result (next_magnitudes number all.old.items def.now) }
+{
+    let place = Place {
+        definition: number,
+        node: 0,
+    };
+    let interval = magnitude(all, place, &def.body)?;
+    Ok(push_one(all, interval)?)
+}
+
+// Adds an interval.
+fn push_one(all: &mut Vec<Interval>, interval: Interval) -> Result<(), OutOfMemory>
+    ensures { OnOk result (all.new.items ≡ all.old.items ++ interval ∷ []) }
+{
+    all.push(interval)?;
+    Ok(())
+}
