@@ -66,7 +66,7 @@ taken_within i None grid x h tick = h (ceil grid tick)
 taken_within i (Some span) grid x h tick = restricted_by i (lies_in span.start span.end tick) (x.cell (ceil grid tick)) (h (ceil grid tick))
 
 -- one source more
-sources_push : (sources : List Interval) (xs : List Stream) (i : Interval) (x : Stream) → length sources ≡ length xs → BoundSources sources xs
+pub sources_push : (sources : List Interval) (xs : List Stream) (i : Interval) (x : Stream) → length sources ≡ length xs → BoundSources sources xs
     → BoundsStream i x → BoundSources (sources ++ i ∷ []) (xs ++ x ∷ [])
 sources_push [] [] i x e h new zero tick = new tick
 sources_push [] [] i x e h new (suc number) tick = tt
@@ -111,7 +111,7 @@ inputs_within (i ∷ inputs) [] h number tick = absurd h
 inputs_within (i ∷ inputs) (list ∷ rows) h zero tick = rows_within i list h.0 tick
 inputs_within (i ∷ inputs) (list ∷ rows) h (suc number) tick = inputs_within inputs rows h.1 number tick
 
-as_many : (inputs : List Interval) (rows : List (List Snapshot)) → BoundInputs inputs rows → length inputs ≡ length (map stream_of rows)
+pub as_many : (inputs : List Interval) (rows : List (List Snapshot)) → BoundInputs inputs rows → length inputs ≡ length (map stream_of rows)
 as_many [] [] h = refl
 as_many [] (list ∷ rows) h = absurd h
 as_many (i ∷ inputs) [] h = absurd h

@@ -32,12 +32,12 @@ both_within a b i f h None y g k = tt
 both_within a b i f h (Some x) None g k = tt
 both_within a b i f h (Some x) (Some y) g k = h x y g k
 
-sums_within : (a b : Interval) (x y : ℤ) → Bounds a x → Bounds b y → Bounds (sum a b) (x +ℤ y)
+pub sums_within : (a b : Interval) (x y : ℤ) → Bounds a x → Bounds b y → Bounds (sum a b) (x +ℤ y)
 sums_within a b x y f g =
     let c = f.low in let d = f.high in let e = g.low in let h = g.high in
     record { low = omega (arith, ints); high = omega (arith, ints) }
 
-differences_within : (a b : Interval) (x y : ℤ) → Bounds a x → Bounds b y → Bounds (difference a b) (x -ℤ y)
+pub differences_within : (a b : Interval) (x y : ℤ) → Bounds a x → Bounds b y → Bounds (difference a b) (x -ℤ y)
 differences_within a b x y f g =
     let c = f.low in let d = f.high in let e = g.low in let h = g.high in
     record { low = omega (arith, ints); high = omega (arith, ints) }

@@ -57,7 +57,7 @@ high_within i n f = let a = f.low in let b = f.high in record { low = omega (ari
 count_within : (most k : ℕ) → suc k ≤ most → Bounds (counts most) (pos (suc k))
 count_within most k h = record { low = omega (arith, ints); high = omega (arith, ints) }
 
-sum_within : (most : ℕ) (i : Interval) (n : ℤ) (ns : List ℤ) → AllWithin i (n ∷ ns) → length (n ∷ ns) ≤ most
+pub sum_within : (most : ℕ) (i : Interval) (n : ℤ) (ns : List ℤ) → AllWithin i (n ∷ ns) → length (n ∷ ns) ≤ most
     → Bounds (product (counts most) i) (total (n ∷ ns))
 sum_within most i n ns h few =
     let k = pos (length (n ∷ ns)) in

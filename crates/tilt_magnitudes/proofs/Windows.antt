@@ -50,12 +50,18 @@ same_gap tick from to =
     omega (arith, ints))
     (λ none. int_gap_none (tick +ℤ from) (tick +ℤ to) (omega (arith, ints)) ∙ sym (int_gap_none from to none))
 
+pub numbers_met : (i : Interval) (x : Stream) → BoundsStream i x → (lo hi : ℤ) → AllWithin i (numbers (met x lo hi))
+numbers_met i x h lo hi = numbers_within i (met x lo hi) (met_within i x h true lo (int_gap lo hi))
+
+-- a window meets at most as many numbers as it has ticks
+pub few_numbers : (x : Stream) (from to tick : ℤ) → length (numbers (met x (tick +ℤ from) (tick +ℤ to))) ≤ int_gap from to
+few_numbers x from to tick =
+    let cells = met x (tick +ℤ from) (tick +ℤ to) in
+    let few : length cells ≤ int_gap (tick +ℤ from) (tick +ℤ to) = few_met x true (tick +ℤ from) (int_gap (tick +ℤ from) (tick +ℤ to)) in
+    omega (arith, length-numbers cells, few, same_gap tick from to)
+
 pub window_within : (r : Reducer) (from to : ℤ) (i : Interval) (x : Stream) → BoundsStream i x → (tick : ℤ)
     → BoundsCell (interval_reduced r (int_gap from to) i) (reduce r (numbers (met x (tick +ℤ from) (tick +ℤ to))))
 window_within r from to i x h tick =
-    let lo = tick +ℤ from in
-    let hi = tick +ℤ to in
-    let cells = met x lo hi in
-    let few : length cells ≤ int_gap lo hi = few_met x true lo (int_gap lo hi) in
-    reduced_within r (int_gap from to) i (numbers cells) (numbers_within i cells (met_within i x h true lo (int_gap lo hi)))
-    (omega (arith, length-numbers cells, few, same_gap tick from to))
+    reduced_within r (int_gap from to) i (numbers (met x (tick +ℤ from) (tick +ℤ to)))
+    (numbers_met i x h (tick +ℤ from) (tick +ℤ to)) (few_numbers x from to tick)
