@@ -1,4 +1,6 @@
 mod Computed
+mod Counts
+mod Marked
 mod Meaning
 mod Narrowed
 pub mod Products

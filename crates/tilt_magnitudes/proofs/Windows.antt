@@ -29,7 +29,7 @@ one_more : (here : Bool) (c : Option ℤ) (cells : List (Option ℤ)) (n : ℕ) 
 one_more true c cells n h = omega (arith, h)
 one_more false c cells n h = omega (arith, h)
 
-few_met : (x : Stream) (begins : Bool) (tick : ℤ) (n : ℕ) → length (met_behind x begins tick n) ≤ n
+pub few_met : (x : Stream) (begins : Bool) (tick : ℤ) (n : ℕ) → length (met_behind x begins tick n) ≤ n
 few_met x begins tick zero = omega arith
 few_met x begins tick (suc n) =
     one_more (begins || x.mark (tick +ℤ pos 1)) (x.cell (tick +ℤ pos 1)) (met_behind x false (tick +ℤ pos 1) n) n

@@ -1,3 +1,4 @@
 pub mod Interval
 pub mod Law
 pub mod Magnitude
+pub mod Marks

@@ -1,0 +1,11 @@
+use Rattle.tilt_magnitudes.proofs.Counts.{count_in_ticks}
+use Rattle.tilt_magnitudes.proofs.Marked.{definition_marks, definitions_marks, few_snapshots}
+use Rattle.tilt_magnitudes.proofs.marks.windows_meet_few_snapshots.Goals as goal
+
+pub returns : goal.returns
+returns c = record {
+  stretches = count_in_ticks;
+  definition = definition_marks;
+  query = definitions_marks;
+  window = few_snapshots;
+}
