@@ -1,5 +1,5 @@
 -- What the code computes, as the definitions have it.
-use Rattle.std.proofs.Common.{List, [], ◌∷◌, length, get_or, zero, suc, ◌<◌, ◌≡◌, ℕ, ◌-◌, ◌≤◌, ◌^◌, ℤ, pos, negsuc, neg_ℤ, ◌+ℤ◌, ◌-ℤ◌, ◌*ℤ◌, ◌≤ℤ◌, ◌<ℤ◌, true, false, int_le, SFits, w64, to_z, of_z, FitsSigned, unsigned_abs, refl, sym, ap, ◌∙◌, subst, arith}
+use Rattle.std.proofs.Common.{List, [], ◌∷◌, length, get_or, zero, suc, ◌<◌, ◌≡◌, ℕ, ◌-◌, ◌≤◌, ◌^◌, ℤ, pos, negsuc, neg_ℤ, ◌*ℤ◌, ◌≤ℤ◌, ◌<ℤ◌, true, false, int_le, SFits, w64, FitsSigned, unsigned_abs, refl, sym, subst, arith}
 use Rattle.std.specs.Int.{w128}
 use Rattle.std.proofs.lemmas.Int.{ints, fits_signed_mul}
 use Rattle.tilt_core.specs.Core.{AreDefinitions}

@@ -3,6 +3,7 @@ mod Counts
 mod Marked
 mod Meaning
 mod Narrowed
+mod Overflows
 pub mod Products
 pub mod Quotients
 pub mod Scalars

@@ -1,12 +1,12 @@
 -- How many marks definitions can have, and how many snapshots windows meet.
-use Rattle.std.proofs.Common.{◌≡◌, ℕ, zero, suc, ◌+◌, ◌-◌, ◌*◌, ◌/◌, ◌<◌, ◌≤◌, min, ℤ, pos, negsuc, ◌+ℤ◌, ◌-ℤ◌, ◌≤ℤ◌, ◌<ℤ◌, Bool, true, false, ◌||◌, ◌&&◌, if◌then◌else◌, List, [], ◌∷◌, ◌++◌, length, Option, Some, None, unsigned_abs, refl, sym, ap, ◌∙◌, subst, arith}
+use Rattle.std.proofs.Common.{◌≡◌, ℕ, zero, suc, ◌+◌, ◌≤◌, ℤ, pos, negsuc, ◌+ℤ◌, ◌-ℤ◌, ◌≤ℤ◌, ◌<ℤ◌, Bool, true, false, ◌||◌, ◌&&◌, if◌then◌else◌, List, [], ◌∷◌, ◌++◌, length, Option, Some, None, unsigned_abs, refl, sym, ap, ◌∙◌, arith}
 use Rattle.std.specs.Int.{int_gap}
 use Rattle.std.specs.Ordering.{int_eq}
 use Rattle.std.proofs.lemmas.Int.{ints}
 use Rattle.std.proofs.lemmas.List.{length_push}
 use Rattle.tilt_base.proofs.GridPoints.{ceil-IsCeil, ceil-point, is_point-Decides}
 use Rattle.tilt_base.specs.Expression.{Leaf, One, Two, If}
-use Rattle.tilt_base.specs.Grid.{GridPoints, IsGrid, IsPoint, is_point}
+use Rattle.tilt_base.specs.Grid.{GridPoints, IsGrid, is_point}
 use Rattle.tilt_base.specs.declared.reducer.Reducer.{Reducer}
 use Rattle.tilt_base.specs.declared.span.Span.{Span}
 use Rattle.tilt_core.specs.CoreTree.{CoreTree, Const, Read, Reduce, Definition}
@@ -14,7 +14,7 @@ use Rattle.tilt_core.specs.Meaning.{AreGrids, body_of, definition_of, source_of,
 use Rattle.tilt_magnitudes.proofs.Counts.{bit, count_all, count_apart, count_either, count_implied, count_in_ticks, count_none, count_shifted}
 use Rattle.tilt_magnitudes.proofs.Windows.{few_met}
 use Rattle.tilt_magnitudes.specs.Marks.{HasAtMost, HaveMarks, count_behind, in_ticks, marks_at, marks_of_body, marks_of_definition, marks_on_grid, marks_over, more_marks, snapshots_met}
-use Rattle.tilt_stream.specs.Domain.{lies_in, on_grid, restricted, some_mark}
+use Rattle.tilt_stream.specs.Domain.{lies_in, on_grid, some_mark}
 use Rattle.tilt_stream.specs.Pointwise.{shifted}
 use Rattle.tilt_stream.specs.Stream.{Stream}
 use Rattle.tilt_stream.specs.Window.{met, met_behind, windowed}

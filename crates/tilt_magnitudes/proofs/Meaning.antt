@@ -1,5 +1,5 @@
 -- What a query means on rows within the intervals of its inputs is within the intervals of its sources.
-use Rattle.std.proofs.Common.{◌≡◌, ℕ, zero, suc, ◌+◌, ℤ, pos, ◌+ℤ◌, Bool, true, false, if◌then◌else◌, List, [], ◌∷◌, ◌++◌, length, map, Option, Some, None, Result, Ok, Err, refl, sym, ap, ◌∙◌, subst, arith}
+use Rattle.std.proofs.Common.{◌≡◌, ℕ, zero, suc, ◌+◌, ℤ, ◌+ℤ◌, Bool, true, false, if◌then◌else◌, List, [], ◌∷◌, ◌++◌, length, map, Option, Some, None, Ok, refl, sym, ap, subst, arith}
 use Rattle.std.specs.Int.{int_gap}
 use Rattle.std.proofs.lemmas.Int.{ints}
 use Rattle.std.proofs.lemmas.List.{length_push}
@@ -14,11 +14,13 @@ use Rattle.tilt_magnitudes.proofs.Scalars.{choice_within, one_within, two_within
 use Rattle.tilt_magnitudes.proofs.Windows.{window_within}
 use Rattle.tilt_magnitudes.specs.Interval.{Interval, Bounds, BoundsCell, hull, interval1, interval2, interval_reduced, only}
 use Rattle.tilt_magnitudes.specs.Law.{BoundInputs, BoundSources, BoundsRows, BoundsStream}
-use Rattle.tilt_magnitudes.specs.Magnitude.{interval_at, later, magnitude, more_magnitudes, narrowed, next_magnitudes, start_of}
-use Rattle.tilt_magnitudes.specs.declared.place.Place.{Place}
+use Rattle.tilt_magnitudes.specs.Magnitude.{interval_at, magnitude, more_magnitudes, narrowed, next_magnitudes}
 use Rattle.tilt_stream.specs.Domain.{lies_in, on_grid}
 use Rattle.tilt_stream.specs.Snap.{Snapshot}
 use Rattle.tilt_stream.specs.Stream.{Stream, cell_at, covers, stream_of}
+use Rattle.tilt_units.specs.Scaling.{later}
+use Rattle.tilt_units.specs.Translation.{start_of}
+use Rattle.tilt_units.specs.declared.place.Place.{Place}
 
 only_within : (n : ℤ) → Bounds (only n) n
 only_within n = record { low = omega (arith, ints); high = omega (arith, ints) }

@@ -1,12 +1,12 @@
 -- What the result of an analysis says of its parts.
-use Rattle.std.proofs.Common.{◌≡◌, ℕ, ◌^◌, ℤ, pos, negsuc, neg_ℤ, ◌≤ℤ◌, ◌<ℤ◌, Bool, true, false, if◌then◌else◌, Option, Some, None, Result, Ok, Err, nat_lt, refl, sym, ap, ◌∙◌, subst, arith}
+use Rattle.std.proofs.Common.{◌≡◌, ℕ, ◌^◌, ℤ, pos, negsuc, neg_ℤ, ◌≤ℤ◌, ◌<ℤ◌, Bool, true, false, if◌then◌else◌, Option, Some, None, Result, Ok, Err, nat_lt, refl, ◌∙◌, subst, arith}
 use Rattle.std.proofs.lemmas.Int.{ints}
 use Rattle.std.proofs.lemmas.Bool.Decides.{nat_tests}
 use Rattle.tilt_base.specs.Number.{within_64_bits}
 use Rattle.tilt_magnitudes.specs.Interval.{Interval, Bounds, BoundsCell}
 use Rattle.tilt_magnitudes.specs.Magnitude.{and_then, if_both, narrowed}
 use Rattle.tilt_magnitudes.specs.declared.overflow.Overflow.{Overflow}
-use Rattle.tilt_magnitudes.specs.declared.place.Place.{Place}
+use Rattle.tilt_units.specs.declared.place.Place.{Place}
 
 pub after : {A B : Type 0} {P : Type 0} (r : Result A Overflow) (next : A → Result B Overflow) (b : B) → and_then r next ≡ Ok b
     → ((a : A) → r ≡ Ok a → next a ≡ Ok b → P) → P

@@ -1,10 +1,9 @@
 -- Products of numbers within intervals.
-use Rattle.std.proofs.Common.{◌≡◌, ℤ, pos, neg_ℤ, ◌+ℤ◌, ◌-ℤ◌, ◌*ℤ◌, ◌≤ℤ◌, ◌<ℤ◌, sym, ap, ◌∙◌, subst, arith}
-use Rattle.std.specs.Int.{int_min, int_max}
+use Rattle.std.proofs.Common.{◌≡◌, ℤ, pos, neg_ℤ, ◌-ℤ◌, ◌*ℤ◌, ◌≤ℤ◌, ap, ◌∙◌, subst, arith}
 use Rattle.std.proofs.lemmas.Int.{ints, clamps, by_lt_z}
 use Rattle.std.proofs.Math.IntN.{*ℤ_comm}
 use Rattle.tilt_base.proofs.Multiples.{mul_add, mul_neg, mul_low}
-use Rattle.tilt_magnitudes.specs.Interval.{Interval, Bounds, between, hull, around_ends, product}
+use Rattle.tilt_magnitudes.specs.Interval.{Interval, Bounds, between, hull, product}
 
 -- a factor that isn't negative keeps the order, and one that isn't positive turns it round
 pub scaled_up : (x y k : ℤ) → pos 0 ≤ℤ k → x ≤ℤ y → (x *ℤ k) ≤ℤ (y *ℤ k)

@@ -1,11 +1,11 @@
 -- Quotients and remainders of numbers within intervals.
-use Rattle.std.proofs.Common.{◌≡◌, ℕ, zero, suc, ◌*◌, ◌/◌, ◌%◌, ◌<◌, ◌≤◌, ℤ, pos, negsuc, neg_ℤ, ◌+ℤ◌, ◌-ℤ◌, ◌*ℤ◌, ◌≤ℤ◌, ◌<ℤ◌, Bool, true, false, if◌then◌else◌, int_le, int_div, int_rem, refl, sym, ap, ◌∙◌, subst, arith}
+use Rattle.std.proofs.Common.{◌≡◌, ℕ, zero, suc, ◌/◌, ◌<◌, ◌≤◌, ℤ, pos, negsuc, neg_ℤ, ◌≤ℤ◌, ◌<ℤ◌, Bool, true, false, if◌then◌else◌, int_le, int_div, int_rem, refl, subst, arith}
 use Rattle.std.specs.Int.{int_min, int_max}
 use Rattle.std.proofs.lemmas.Int.{ints, clamps, by_lt_z}
 use Rattle.std.proofs.lemmas.Nat.{le-div}
 use Rattle.std.proofs.Math.Nat.{div-mul-le_self, mod-le, mod-lt, mul-le-mul_left, zero-div}
 use Rattle.tilt_magnitudes.proofs.Products.{within_hull}
-use Rattle.tilt_magnitudes.specs.Interval.{Interval, Bounds, between, hull, negated, positive, quotient, quotient_above, quotient_below, remainder, largest_remainder}
+use Rattle.tilt_magnitudes.specs.Interval.{Interval, Bounds, between, hull, negated, positive, quotient, quotient_above, quotient_below, remainder}
 
 -- a larger dividend
 larger_dividend : (a b n : ℕ) → 0 < n → a ≤ b → a / n ≤ b / n

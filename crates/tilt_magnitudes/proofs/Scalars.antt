@@ -1,8 +1,7 @@
 -- What operators give on cells within intervals is within the interval of the operator.
-use Rattle.std.proofs.Common.{◌≡◌, ℕ, ◌^◌, ◌<◌, ℤ, pos, negsuc, neg_ℤ, ◌+ℤ◌, ◌-ℤ◌, ◌*ℤ◌, ◌≤ℤ◌, Bool, true, false, not, ◌&&◌, ◌||◌, if◌then◌else◌, Option, Some, None, int_lt, int_le, int_div, int_rem, nat_lt, refl, sym, ap, ◌∙◌, subst, arith}
-use Rattle.std.specs.Int.{int_min, int_max}
+use Rattle.std.proofs.Common.{◌≡◌, ◌^◌, ℤ, pos, negsuc, neg_ℤ, ◌+ℤ◌, ◌-ℤ◌, ◌*ℤ◌, Bool, true, false, not, ◌&&◌, ◌||◌, if◌then◌else◌, Option, Some, None, int_lt, int_le, int_div, int_rem, nat_lt, refl, arith}
 use Rattle.std.specs.Ordering.{int_eq}
-use Rattle.std.proofs.lemmas.Int.{ints, clamps}
+use Rattle.std.proofs.lemmas.Int.{ints}
 use Rattle.tilt_base.specs.Number.{within_64_bits}
 use Rattle.tilt_base.specs.Scalar.{apply1, apply2, choose, if_null, is_true, of_both, quotient as quotient_cell, remainder as remainder_cell, truth, when_true}
 use Rattle.tilt_base.specs.declared.operator.Op1.{Op1}

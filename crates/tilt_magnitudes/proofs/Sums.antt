@@ -1,9 +1,9 @@
 -- What reducers give on numbers within an interval.
-use Rattle.std.proofs.Common.{◌≡◌, ℕ, zero, suc, ◌+◌, ◌*◌, ◌/◌, ◌<◌, ◌≤◌, ℤ, pos, negsuc, neg_ℤ, ◌+ℤ◌, ◌-ℤ◌, ◌*ℤ◌, ◌≤ℤ◌, ◌<ℤ◌, Bool, true, false, if◌then◌else◌, List, [], ◌∷◌, length, fold, Option, Some, None, int_div, refl, sym, ap, ◌∙◌, subst, arith}
+use Rattle.std.proofs.Common.{◌≡◌, ℕ, zero, suc, ◌*◌, ◌/◌, ◌<◌, ◌≤◌, ℤ, pos, negsuc, neg_ℤ, ◌+ℤ◌, ◌*ℤ◌, ◌≤ℤ◌, List, [], ◌∷◌, length, fold, int_div, refl, ap, ◌∙◌, arith}
 use Rattle.std.specs.Int.{int_min, int_max}
 use Rattle.std.specs.List.{AllByRecursion}
 use Rattle.std.proofs.lemmas.Int.{ints, clamps}
-use Rattle.std.proofs.Math.IntN.{*ℤ_comm, +ℤ_one, suc_ℤ-*ℤ, pos-*ℤ-pos, zero-*ℤ}
+use Rattle.std.proofs.Math.IntN.{*ℤ_comm, suc_ℤ-*ℤ, pos-*ℤ-pos, zero-*ℤ}
 use Rattle.std.proofs.Math.Nat.{mul-div_cancel, mul-div_cancel_left}
 use Rattle.tilt_base.proofs.Multiples.{mul_neg}
 use Rattle.tilt_base.specs.Reduce.{last_of, reduce, total}

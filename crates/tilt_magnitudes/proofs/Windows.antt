@@ -1,5 +1,5 @@
 -- The numbers that a window meets are within the interval of its source, and not more than the window has ticks.
-use Rattle.std.proofs.Common.{◌≡◌, ℕ, zero, suc, ◌<◌, ◌≤◌, ℤ, pos, ◌+ℤ◌, ◌≤ℤ◌, ◌<ℤ◌, Bool, true, false, ◌||◌, if◌then◌else◌, List, [], ◌∷◌, length, Option, Some, None, refl, sym, ap, ◌∙◌, subst, arith}
+use Rattle.std.proofs.Common.{◌≡◌, ℕ, zero, suc, ◌≤◌, ℤ, pos, ◌+ℤ◌, Bool, true, false, ◌||◌, if◌then◌else◌, List, [], ◌∷◌, length, Option, Some, None, sym, ◌∙◌, arith}
 use Rattle.std.specs.Int.{int_gap}
 use Rattle.std.specs.List.{AllByRecursion}
 use Rattle.std.proofs.lemmas.Int.{ints, by_lt_z}
@@ -7,7 +7,7 @@ use Rattle.tilt_base.proofs.Lists.{length-numbers}
 use Rattle.tilt_base.specs.Reduce.{numbers, reduce}
 use Rattle.tilt_base.specs.declared.reducer.Reducer.{Reducer}
 use Rattle.tilt_magnitudes.proofs.Sums.{AllWithin, reduced_within}
-use Rattle.tilt_magnitudes.specs.Interval.{Interval, Bounds, BoundsCell, interval_reduced}
+use Rattle.tilt_magnitudes.specs.Interval.{Interval, BoundsCell, interval_reduced}
 use Rattle.tilt_magnitudes.specs.Law.{BoundsStream}
 use Rattle.tilt_stream.proofs.Cut.{int_gap_is, int_gap_none}
 use Rattle.tilt_stream.specs.Stream.{Stream}

@@ -1,11 +1,13 @@
--- The law of bounds: rows within the intervals of the inputs give values within the intervals of all sources.
-use Rattle.std.specs.Prelude.{ℕ, ℤ, List, length}
+-- The law of bounds: rows within the intervals of the inputs give values within the intervals of all sources. When no node leaves 64 bits
+-- is said in `tilt_units`.
+use Rattle.std.specs.Prelude.{ℕ, ℤ, true, List}
 use Rattle.std.specs.List.{AllByRecursion, AllZip}
 use Rattle.tilt_core.specs.Meaning.{source_of}
 use Rattle.tilt_magnitudes.specs.Interval.{Interval, BoundsCell}
 use Rattle.tilt_magnitudes.specs.Magnitude.{interval_at}
 use Rattle.tilt_stream.specs.Snap.{Snapshot}
 use Rattle.tilt_stream.specs.Stream.{Stream}
+use Rattle.tilt_units.specs.Law.{Chosen}
 
 -- each cell of a stream is null or a number of the interval
 abbrev pub BoundsStream : Interval → Stream → Type 0
@@ -22,3 +24,7 @@ BoundsRows i rows = AllByRecursion (λ (row : Snapshot). BoundsCell i row.value)
 -- the same of each input and its interval
 abbrev pub BoundInputs : List Interval → List (List Snapshot) → Type 0
 BoundInputs inputs rows = AllZip BoundsRows inputs rows
+
+-- all ticks of each source
+abbrev pub everywhere : Chosen
+everywhere = λ source tick. true

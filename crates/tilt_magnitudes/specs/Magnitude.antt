@@ -1,5 +1,5 @@
 -- The interval of each expression of a query, and the first expression that can leave 64 bits.
-use Rattle.std.specs.Prelude.{ℕ, zero, suc, ◌+◌, ℤ, pos, ◌+ℤ◌, List, [], ◌∷◌, ◌++◌, length, Option, Some, None, Result, Ok, Err, MatchResult, ◌≡◌, ⊤}
+use Rattle.std.specs.Prelude.{ℕ, suc, ◌+◌, ℤ, pos, List, [], ◌∷◌, ◌++◌, Option, Some, None, Result, Ok, Err, MatchResult, ◌≡◌, ⊤}
 use Rattle.std.specs.Int.{int_gap}
 use Rattle.std.specs.List.{slice_index_or}
 use Rattle.tilt_base.specs.Expression.{Leaf, One, Two, If}
@@ -9,7 +9,9 @@ use Rattle.tilt_magnitudes.specs.Interval.{Interval, only, hull, interval1, inte
 use Rattle.tilt_magnitudes.specs.declared.overflow.Overflow.{Overflow}
 use Rattle.tilt_magnitudes.specs.declared.fault.MagnitudeFault.{MagnitudeFault}
 use Rattle.tilt_magnitudes.specs.declared.fault.MagnitudeFault.TheVariants as fault
-use Rattle.tilt_magnitudes.specs.declared.place.Place.{Place}
+use Rattle.tilt_units.specs.Scaling.{later}
+use Rattle.tilt_units.specs.Translation.{start_of}
+use Rattle.tilt_units.specs.declared.place.Place.{Place}
 
 -- goes on with a result, unless there is an overflow
 abbrev pub and_then : {A B : Type 0} → Result A Overflow → (A → Result B Overflow) → Result B Overflow
@@ -24,10 +26,6 @@ if_both place i (Some low) None = Err (record { place = place; bounds = i })
 
 abbrev pub narrowed : Place → Interval → Result Interval Overflow
 narrowed place i = if_both place i (within_64_bits i.low) (within_64_bits i.high)
-
--- the place that is so many nodes later
-abbrev pub later : Place → ℕ → Place
-later place count = record { definition = place.definition; node = place.node + count }
 
 -- the interval of the source with a number; one that isn't known is null, so that any interval is right
 abbrev pub interval_at : List Interval → ℕ → Interval
@@ -48,10 +46,6 @@ magnitude sources place (Two op a b) =
 magnitude sources place (If c a b) =
     and_then (magnitude sources (later place 1) c) (λ z. and_then (magnitude sources (later place (1 + nodes c)) a)
     (λ x. and_then (magnitude sources (later place (1 + nodes c + nodes a)) b) (λ y. narrowed place (hull x y))))
-
--- the first node of a definition's body
-abbrev pub start_of : ℕ → Place
-start_of number = record { definition = number; node = 0 }
 
 -- the intervals of sources, and of one more definition, which has a number. A grid and a span change no value, so that a definition has the
 -- interval of its body

@@ -4,13 +4,14 @@ ghost use Rattle.std.specs.Int.{int_gap};
 ghost use Rattle.tilt_base.specs.Number.{within_64_bits};
 ghost use Rattle.tilt_core.specs.CoreTree.{nodes, tree_of};
 ghost use Rattle.tilt_magnitudes.specs.Interval.{only};
-ghost use Rattle.tilt_magnitudes.specs.Magnitude.{interval_at, later, magnitude, narrowed};
+ghost use Rattle.tilt_magnitudes.specs.Magnitude.{interval_at, magnitude, narrowed};
+ghost use Rattle.tilt_units.specs.Scaling.{later};
 
 use crate::arithmetic::{interval_reduced, interval1, interval2};
 use crate::interval::{Interval, WideInterval, hull, only, widen};
 use crate::overflow::Overflow;
-use crate::place::Place;
 use tilt_core::Tree;
+use tilt_units::Place;
 
 /// The interval of an expression over sources within these intervals. Otherwise the first node that can leave 64 bits: operands come
 /// before their operator, from left to right.

@@ -10,14 +10,16 @@ ghost use Rattle.tilt_core.specs.CoreTree.{CoreTree, Definition};
 ghost use Rattle.tilt_core.specs.Meaning.{body_of, sources};
 ghost use Rattle.tilt_magnitudes.specs.Interval as interval;
 ghost use Rattle.tilt_magnitudes.specs.Interval.{Bounds, BoundsCell, hull, interval1, interval2, interval_reduced};
-ghost use Rattle.tilt_magnitudes.specs.Law.{BoundInputs, BoundSources};
+ghost use Rattle.tilt_magnitudes.specs.Law.{BoundInputs, BoundSources, everywhere};
 ghost use Rattle.tilt_magnitudes.specs.Magnitude.{magnitude, magnitudes};
-ghost use Rattle.tilt_magnitudes.specs.declared.place.Place.{Place};
 ghost use Rattle.tilt_stream.specs.Snap.{Snapshot};
-ghost use Rattle.tilt_stream.specs.Stream.{Stream};
+ghost use Rattle.tilt_stream.specs.Stream.{Stream, stream_of};
+ghost use Rattle.tilt_units.specs.Law.{QueryStaysWithin, StaysWithin};
+ghost use Rattle.tilt_units.specs.declared.place.Place.{Place};
 
 /// This does nothing. Its clauses are the law of bounds. If operands are within intervals, what an operator gives is within the
-/// operator's interval, null apart. If rows are within the intervals of the inputs, each source is within its interval at each tick.
+/// operator's interval, null apart. If rows are within the intervals of the inputs, each source is within its interval at each tick,
+/// and no operator and no reducer overflows.
 pub fn values_stay_within_bounds()
     ensures one { (op : Op1) (a : interval.Interval) (x : Option ℤ) → BoundsCell a x → BoundsCell (interval1 op a) (apply1 op x) }
     ensures two { (op : Op2) (a b : interval.Interval) (x y : Option ℤ) → BoundsCell a x → BoundsCell b y
@@ -33,4 +35,11 @@ pub fn values_stay_within_bounds()
     // A whole query: each of its sources, inputs and definitions.
     ensures query { (inputs all : List interval.Interval) (rows : List (List Snapshot)) (defs : List Definition) → BoundInputs inputs rows
         → magnitudes inputs defs ≡ Ok all → BoundSources all (sources rows defs) }
+    // No node of the expression leaves 64 bits: each gives what it gives on whole numbers of any size.
+    ensures no_overflow_in { (bounds : List interval.Interval) (xs : List Stream) → BoundSources bounds xs
+        → (place : Place) (e : CoreTree) (i : interval.Interval) → magnitude bounds place e ≡ Ok i
+        → (tick : ℤ) → StaysWithin everywhere xs tick e }
+    // Nor does a node of any definition of the query.
+    ensures no_overflow { (inputs all : List interval.Interval) (rows : List (List Snapshot)) (defs : List Definition)
+        → BoundInputs inputs rows → magnitudes inputs defs ≡ Ok all → QueryStaysWithin everywhere (map stream_of rows) defs }
 {}

@@ -1,4 +1,10 @@
-//! Bounds for each expression of a query, before it runs.
+//! Bounds for each expression of a query, before it runs, and the first one that can leave 64 bits.
+//!
+//! What comes in is an interval for the values of each input, and a core. `magnitudes` gives an interval for each source, or the first
+//! expression that can leave 64 bits, with its place and its exact interval. `specs/Interval` has the interval of what each operator and
+//! each reducer gives, and `specs/Magnitude` those of expressions and queries. By the clauses of `values_stay_within_bounds`, rows within
+//! the intervals of the inputs give values within the intervals of all sources, and no operator and no reducer overflows. A window is
+//! taken to meet as many snapshots as it has ticks. `windows_meet_few_snapshots` has the law of a sharper count, by marks.
 #![tactic(auto)]
 
 mod arithmetic;
@@ -8,7 +14,6 @@ mod interval;
 mod law;
 mod marks;
 mod overflow;
-mod place;
 mod query;
 
 pub use fault::MagnitudeFault;
@@ -16,5 +21,4 @@ pub use interval::{Interval, WideInterval};
 pub use law::values_stay_within_bounds;
 pub use marks::windows_meet_few_snapshots;
 pub use overflow::Overflow;
-pub use place::Place;
 pub use query::magnitudes;

@@ -1,5 +1,5 @@
 use crate::interval::WideInterval;
-use crate::place::Place;
+use tilt_units::Place;
 
 /// An expression that can leave 64 bits.
 #[derive(Clone, Copy, Debug, PartialEq, Eq)]

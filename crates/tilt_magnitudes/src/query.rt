@@ -7,9 +7,9 @@ ghost use Rattle.tilt_magnitudes.specs.Magnitude.{Gives, magnitudes, next_magnit
 use crate::expression::magnitude;
 use crate::fault::MagnitudeFault;
 use crate::interval::Interval;
-use crate::place::Place;
 use std::alloc::{AllocError as OutOfMemory, Global};
 use tilt_core::{Core, Def};
+use tilt_units::Place;
 
 /// The intervals of the sources of a query, if the values of its inputs are within these intervals: the inputs in order, then the
 /// definitions. Otherwise the first expression that can leave 64 bits.

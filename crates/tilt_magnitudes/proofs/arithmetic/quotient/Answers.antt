@@ -1,8 +1,7 @@
-use Rattle.std.proofs.Common.{rules, ◌≡◌, ◌∙◌, ℤ, pos, ◌+ℤ◌, ◌-ℤ◌, ◌*ℤ◌, ◌≤ℤ◌, true, false, int_div, int_le, SFits, to_z, of_z, w64, ap, sym, arith}
-use Rattle.std.specs.Int.{w128}
-use Rattle.std.proofs.lemmas.Int.{ints, clamps, to_z-of_z}
+use Rattle.std.proofs.Common.{rules, ◌∙◌, pos, int_le, w64, ap, sym}
+use Rattle.std.proofs.lemmas.Int.{to_z-of_z}
 use Rattle.tilt_magnitudes.specs.Interval.{hull, quotient_above, quotient_below}
-use Rattle.tilt_magnitudes.proofs.Computed.{first_quotient, second_quotient, third_quotient}
+use Rattle.tilt_magnitudes.proofs.Computed.{first_quotient, third_quotient}
 use Rattle.tilt_magnitudes.proofs.arithmetic.quotient.Goals as goal
 
 pub returns-then-b-ge0 : goal.returns-then-b-ge0

@@ -1,6 +1,6 @@
-use Rattle.std.proofs.Common.{rules, ◌≡◌, ◌∙◌, ℤ, pos, neg_ℤ, ◌+ℤ◌, ◌-ℤ◌, ◌*ℤ◌, ◌≤ℤ◌, true, false, int_div, int_le, SFits, to_z, of_z, w64, ap, sym, arith}
-use Rattle.std.specs.Int.{w128, int_min, int_max}
-use Rattle.std.proofs.lemmas.Int.{ints, clamps, to_z-of_z}
+use Rattle.std.proofs.Common.{rules, ◌∙◌, int_div}
+use Rattle.std.specs.Int.{w128}
+use Rattle.std.proofs.lemmas.Int.{to_z-of_z}
 use Rattle.tilt_magnitudes.specs.Interval.{between, hull, around_ends}
 use Rattle.tilt_magnitudes.proofs.arithmetic.quotient_above.Goals as goal
 

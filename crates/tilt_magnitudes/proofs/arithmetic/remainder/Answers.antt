@@ -1,8 +1,7 @@
-use Rattle.std.proofs.Common.{rules, ◌≡◌, ◌∙◌, ℤ, pos, neg_ℤ, ◌+ℤ◌, ◌-ℤ◌, ◌*ℤ◌, ◌≤ℤ◌, true, false, int_div, int_le, SFits, to_z, of_z, w64, ap, sym, arith}
+use Rattle.std.proofs.Common.{rules, ◌∙◌, pos, neg_ℤ, w64}
 use Rattle.std.specs.Int.{w128, int_min, int_max}
-use Rattle.std.proofs.lemmas.Int.{ints, clamps, to_z-of_z}
+use Rattle.std.proofs.lemmas.Int.{to_z-of_z}
 use Rattle.tilt_magnitudes.specs.Interval.{largest_remainder, remainder}
-use Rattle.tilt_magnitudes.specs.declared.interval.WideInterval.{WideInterval}
 use Rattle.tilt_magnitudes.proofs.arithmetic.remainder.Goals as goal
 
 pub returns : goal.returns

@@ -1,6 +1,6 @@
-use Rattle.std.proofs.Common.{rules, ◌≡◌, ◌∙◌, ℤ, pos, neg_ℤ, ◌+ℤ◌, ◌-ℤ◌, ◌*ℤ◌, ◌≤ℤ◌, true, false, int_div, int_le, SFits, to_z, of_z, w64, ap, sym, arith}
+use Rattle.std.proofs.Common.{◌≡◌, ◌∙◌, pos, neg_ℤ, ◌-ℤ◌, to_z, of_z, arith}
 use Rattle.std.specs.Int.{w128, int_min, int_max}
-use Rattle.std.proofs.lemmas.Int.{ints, clamps, to_z-of_z}
+use Rattle.std.proofs.lemmas.Int.{ints, to_z-of_z}
 use Rattle.tilt_magnitudes.proofs.arithmetic.smallest_remainder.Goals as goal
 
 pub returns : goal.returns

@@ -1,4 +1,5 @@
 use Rattle.tilt_magnitudes.proofs.Meaning.{expression_within, query_within}
+use Rattle.tilt_magnitudes.proofs.Overflows.{expression_stays, query_stays}
 use Rattle.tilt_magnitudes.proofs.Scalars.{choice_within, one_within, two_within}
 use Rattle.tilt_magnitudes.proofs.Sums.{reduced_within}
 use Rattle.tilt_magnitudes.proofs.law.values_stay_within_bounds.Goals as goal
@@ -11,4 +12,6 @@ returns c = record {
   reducer = reduced_within;
   expression = expression_within;
   query = query_within;
+  no_overflow_in = expression_stays;
+  no_overflow = query_stays;
 }

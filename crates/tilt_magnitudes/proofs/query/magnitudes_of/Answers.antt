@@ -1,4 +1,4 @@
-use Rattle.std.proofs.Common.{◌≡◌, rules, arith}
+use Rattle.std.proofs.Common.{rules}
 use Rattle.tilt_magnitudes.proofs.Computed.{small_at}
 use Rattle.tilt_magnitudes.proofs.query.magnitudes_of.Goals as goal
 
