@@ -1,5 +1,5 @@
 -- How many marks definitions can have, and how many snapshots windows meet.
-use Rattle.std.proofs.Common.{◌≡◌, ℕ, zero, suc, ◌+◌, ◌≤◌, ℤ, pos, negsuc, ◌+ℤ◌, ◌-ℤ◌, ◌≤ℤ◌, ◌<ℤ◌, Bool, true, false, ◌||◌, ◌&&◌, if◌then◌else◌, List, [], ◌∷◌, ◌++◌, length, Option, Some, None, unsigned_abs, refl, sym, ap, ◌∙◌, arith}
+use Rattle.std.proofs.Common.{◌≡◌, ℕ, zero, suc, ◌+◌, ◌≤◌, ℤ, pos, negsuc, ◌+ℤ◌, ◌-ℤ◌, ◌≤ℤ◌, ◌<ℤ◌, Bool, true, false, ◌||◌, ◌&&◌, if◌then◌else◌, List, [], ◌∷◌, ◌++◌, length, Option, Some, None, unsigned_abs, refl, sym, ap, ◌∙◌, arith, ◌==◌, map, ◌<◌, min}
 use Rattle.std.specs.Int.{int_gap}
 use Rattle.std.specs.Ordering.{int_eq}
 use Rattle.std.proofs.lemmas.Int.{ints}
@@ -10,13 +10,16 @@ use Rattle.tilt_base.specs.Grid.{GridPoints, IsGrid, is_point}
 use Rattle.tilt_base.specs.declared.reducer.Reducer.{Reducer}
 use Rattle.tilt_base.specs.declared.span.Span.{Span}
 use Rattle.tilt_core.specs.CoreTree.{CoreTree, Const, Read, Reduce, Definition}
-use Rattle.tilt_core.specs.Meaning.{AreGrids, body_of, definition_of, source_of, with_definitions, within}
+use Rattle.tilt_core.specs.Meaning.{AreGrids, body_of, definition_of, source_of, with_definitions, within, sources}
 use Rattle.tilt_magnitudes.proofs.Counts.{bit, count_all, count_apart, count_either, count_implied, count_in_ticks, count_none, count_shifted}
 use Rattle.tilt_magnitudes.proofs.Windows.{few_met}
-use Rattle.tilt_magnitudes.specs.Marks.{HasAtMost, HaveMarks, count_behind, in_ticks, marks_at, marks_of_body, marks_of_definition, marks_on_grid, marks_over, more_marks, snapshots_met}
+use Rattle.tilt_magnitudes.specs.Marks.{HasAtMost, HaveMarks, count_behind, in_ticks, marks_at, marks_of_body, marks_of_definition, marks_on_grid, marks_over, more_marks, snapshots_met, HaveRates, input_marks, marks_in}
 use Rattle.tilt_stream.specs.Domain.{lies_in, on_grid, some_mark}
 use Rattle.tilt_stream.specs.Pointwise.{shifted}
-use Rattle.tilt_stream.specs.Stream.{Stream}
+use Rattle.tilt_magnitudes.specs.declared.met.Rate.{Rate}
+use Rattle.std.proofs.lemmas.Bool.Decides.{nat_tests}
+use Rattle.tilt_stream.specs.Snap.{Snapshot}
+use Rattle.tilt_stream.specs.Stream.{Stream, mark_at, stream_of}
 use Rattle.tilt_stream.specs.Window.{met, met_behind, windowed}
 
 no_marks : (tick : ℤ) (n : ℕ) → count_behind (λ t. false) tick n ≤ 0
@@ -169,6 +172,35 @@ definitions_marks n marks xs (def ∷ defs) e grids h =
     let x = definition_of xs def in
     definitions_marks n (marks ++ most ∷ []) (xs ++ x ∷ []) defs (omega (arith, e, length_push marks most, length_push xs x)) grids.1
     (marks_push n marks xs most x e h (definition_marks n marks xs h def grids.0))
+
+input_by : (none : Bool) (rate : Rate) (n : ℕ) (test : ℤ → Bool) → (rate.ticks == 0) ≡ none → HasAtMost rate.marks rate.ticks test
+    → HasAtMost (if none then n else min n (in_ticks rate.marks rate.ticks n)) n test
+input_by true rate n test e h tick = count_all test tick n
+input_by false rate n test e h tick =
+    let some : 0 < rate.ticks = grind (arith, nat_tests) in
+    let a = count_all test tick n in
+    let b = count_in_ticks test rate.marks rate.ticks h some n tick in
+    omega arith
+
+inputs_marks : (rates : List Rate) (rows : List (List Snapshot)) (n : ℕ) → HaveRates rates rows
+    → HaveMarks n (map (input_marks n) rates) (map stream_of rows)
+inputs_marks [] [] n h number tick = no_marks tick n
+inputs_marks [] (list ∷ rows) n h number tick = absurd h
+inputs_marks (rate ∷ rates) [] n h number tick = absurd h
+inputs_marks (rate ∷ rates) (list ∷ rows) n h zero tick = input_by (rate.ticks == 0) rate n (mark_at list) refl h.0 tick
+inputs_marks (rate ∷ rates) (list ∷ rows) n h (suc number) tick = inputs_marks rates rows n h.1 number tick
+
+as_many : (rates : List Rate) (rows : List (List Snapshot)) (n : ℕ) → HaveRates rates rows
+    → length (map (input_marks n) rates) ≡ length (map stream_of rows)
+as_many [] [] n h = refl
+as_many [] (list ∷ rows) n h = absurd h
+as_many (rate ∷ rates) [] n h = absurd h
+as_many (rate ∷ rates) (list ∷ rows) n h = ap suc (as_many rates rows n h.1)
+
+pub rows_marks : (n : ℕ) (rates : List Rate) (rows : List (List Snapshot)) (defs : List Definition) → HaveRates rates rows → AreGrids defs
+    → HaveMarks n (marks_in rates defs n) (sources rows defs)
+rows_marks n rates rows defs h grids =
+    definitions_marks n (map (input_marks n) rates) (map stream_of rows) defs (as_many rates rows n h) grids (inputs_marks rates rows n h)
 
 -- a window meets one snapshot at its first tick, and one at each mark
 one_more : (begins here : Bool) (c : Option ℤ) (cells : List (Option ℤ)) (rest : ℕ) → length cells ≤ rest

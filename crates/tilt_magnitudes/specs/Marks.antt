@@ -1,13 +1,15 @@
 -- How many snapshots a window can meet: in so many ticks at most one more than its source can have marks, and at most one a tick.
-use Rattle.std.specs.Prelude.{ℕ, zero, suc, ◌+◌, ◌*◌, ◌/◌, ◌≤◌, min, ℤ, pos, ◌+ℤ◌, Bool, if◌then◌else◌, List, [], ◌∷◌, ◌++◌, Option, Some, None, unsigned_abs}
-use Rattle.std.specs.List.{slice_index_or}
+use Rattle.std.specs.Prelude.{ℕ, zero, suc, ◌+◌, ◌*◌, ◌/◌, ◌≤◌, min, ℤ, pos, ◌+ℤ◌, Bool, if◌then◌else◌, List, [], ◌∷◌, ◌++◌, Option, Some, None, unsigned_abs, ◌==◌, map}
+use Rattle.std.specs.List.{AllZip, slice_index_or}
 use Rattle.std.specs.Ordering.{int_eq}
 use Rattle.tilt_base.specs.Expression.{Leaf, One, Two, If}
 use Rattle.tilt_base.specs.Grid.{GridPoints}
 use Rattle.tilt_base.specs.declared.span.Span.{Span}
 use Rattle.tilt_core.specs.CoreTree.{Const, Read, Reduce, CoreTree, Definition}
 use Rattle.tilt_core.specs.Meaning.{source_of}
-use Rattle.tilt_stream.specs.Stream.{Stream}
+use Rattle.tilt_magnitudes.specs.declared.met.Rate.{Rate}
+use Rattle.tilt_stream.specs.Snap.{Snapshot}
+use Rattle.tilt_stream.specs.Stream.{Stream, mark_at}
 
 -- how many of so many ticks after a tick pass a test
 abbrev pub count_behind : (ℤ → Bool) → ℤ → ℕ → ℕ
@@ -52,6 +54,18 @@ marks_of_definition ticks marks def = min ticks (marks_over def.over (marks_on_g
 abbrev pub more_marks : ℕ → List ℕ → List Definition → List ℕ
 more_marks ticks marks [] = marks
 more_marks ticks marks (def ∷ defs) = more_marks ticks (marks ++ marks_of_definition ticks marks def ∷ []) defs
+
+-- how many marks an input can have in so many ticks
+abbrev pub input_marks : ℕ → Rate → ℕ
+input_marks ticks rate = if rate.ticks == 0 then ticks else min ticks (in_ticks rate.marks rate.ticks ticks)
+
+-- how many marks each source of a query can have, if its inputs have these rates
+abbrev pub marks_in : List Rate → List Definition → ℕ → List ℕ
+marks_in rates defs ticks = more_marks ticks (map (input_marks ticks) rates) defs
+
+-- the rows of each input have marks at its rate
+abbrev pub HaveRates : List Rate → List (List Snapshot) → Type 0
+HaveRates rates rows = AllZip (λ (rate : Rate) (list : List Snapshot). HasAtMost rate.marks rate.ticks (mark_at list)) rates rows
 
 -- each source has at most so many marks in any so many ticks
 abbrev pub HaveMarks : ℕ → List ℕ → List Stream → Type 0

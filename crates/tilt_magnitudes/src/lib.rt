@@ -4,7 +4,8 @@
 //! expression that can leave 64 bits, with its place and its exact interval. `specs/Interval` has the interval of what each operator and
 //! each reducer gives, and `specs/Magnitude` those of expressions and queries. By the clauses of `values_stay_within_bounds`, rows within
 //! the intervals of the inputs give values within the intervals of all sources, and no operator and no reducer overflows. A window is
-//! taken to meet as many snapshots as it has ticks. `windows_meet_few_snapshots` has the law of a sharper count, by marks.
+//! taken to meet as many snapshots as it has ticks. `snapshots_met` gives a sharper count, if it is known how often the snapshots of inputs
+//! start; its law is `windows_meet_few_snapshots`.
 #![tactic(auto)]
 
 mod arithmetic;
@@ -13,6 +14,7 @@ mod fault;
 mod interval;
 mod law;
 mod marks;
+mod met;
 mod overflow;
 mod query;
 
@@ -20,5 +22,6 @@ pub use fault::MagnitudeFault;
 pub use interval::{Interval, WideInterval};
 pub use law::values_stay_within_bounds;
 pub use marks::windows_meet_few_snapshots;
+pub use met::{Rate, snapshots_met};
 pub use overflow::Overflow;
 pub use query::magnitudes;
