@@ -1,5 +1,5 @@
 -- How many marks definitions can have, and how many snapshots windows meet.
-use Rattle.std.proofs.Common.{◌≡◌, ℕ, zero, suc, ◌+◌, ◌≤◌, ℤ, pos, negsuc, ◌+ℤ◌, ◌-ℤ◌, ◌≤ℤ◌, ◌<ℤ◌, Bool, true, false, ◌||◌, ◌&&◌, if◌then◌else◌, List, [], ◌∷◌, ◌++◌, length, Option, Some, None, unsigned_abs, refl, sym, ap, ◌∙◌, arith, ◌==◌, map, ◌<◌, min}
+use Rattle.std.proofs.Common.{◌≡◌, ℕ, zero, suc, ◌+◌, ◌≤◌, ℤ, pos, negsuc, ◌+ℤ◌, ◌-ℤ◌, ◌≤ℤ◌, ◌<ℤ◌, Bool, true, false, ◌||◌, ◌&&◌, if◌then◌else◌, List, [], ◌∷◌, ◌++◌, length, Option, Some, None, unsigned_abs, refl, sym, ap, ◌∙◌, arith, ◌==◌, map, ◌<◌, min, subst}
 use Rattle.std.specs.Int.{int_gap}
 use Rattle.std.specs.Ordering.{int_eq}
 use Rattle.std.proofs.lemmas.Int.{ints}
@@ -12,7 +12,10 @@ use Rattle.tilt_base.specs.declared.span.Span.{Span}
 use Rattle.tilt_core.specs.CoreTree.{CoreTree, Const, Read, Reduce, Definition}
 use Rattle.tilt_core.specs.Meaning.{AreGrids, body_of, definition_of, source_of, with_definitions, within, sources}
 use Rattle.tilt_magnitudes.proofs.Counts.{bit, count_all, count_apart, count_either, count_implied, count_in_ticks, count_none, count_shifted}
-use Rattle.tilt_magnitudes.proofs.Windows.{few_met}
+use Rattle.tilt_magnitudes.proofs.Windows.{few_met, same_gap}
+use Rattle.tilt_base.proofs.Lists.{length-numbers}
+use Rattle.tilt_base.specs.Reduce.{numbers}
+use Rattle.tilt_magnitudes.specs.Law.{HaveAllMarks}
 use Rattle.tilt_magnitudes.specs.Marks.{HasAtMost, HaveMarks, count_behind, in_ticks, marks_at, marks_of_body, marks_of_definition, marks_on_grid, marks_over, more_marks, snapshots_met, HaveRates, input_marks, marks_in}
 use Rattle.tilt_stream.specs.Domain.{lies_in, on_grid, some_mark}
 use Rattle.tilt_stream.specs.Pointwise.{shifted}
@@ -223,3 +226,26 @@ few_snapshots lo hi marks xs h source =
     let b = h source lo in
     let c = few_met (source_of xs source) true lo (int_gap lo hi) in
     omega arith
+
+-- the sources before others
+shorter_by : (n : ℕ) (xs : List Stream) (x : Stream) (most : ℕ → ℕ) → ((number : ℕ) → HasAtMost (most number) n (source_of (xs ++ x ∷ []) number).mark)
+    → (number : ℕ) → HasAtMost (most number) n (source_of xs number).mark
+shorter_by n [] x most h number tick = let a = no_marks tick n in omega arith
+shorter_by n (y ∷ xs) x most h zero tick = h 0 tick
+shorter_by n (y ∷ xs) x most h (suc number) tick = shorter_by n xs x (λ k. most (suc k)) (λ k. h (suc k)) number tick
+
+pub earlier_marks : (n : ℕ) (marks : List ℕ) (xs : List Stream) (defs : List Definition) → HaveMarks n marks (with_definitions xs defs)
+    → HaveMarks n marks xs
+earlier_marks n marks xs [] h = h
+earlier_marks n marks xs (def ∷ defs) h =
+    shorter_by n xs (definition_of xs def) (marks_at marks) (earlier_marks n marks (xs ++ definition_of xs def ∷ []) defs h)
+
+pub few_numbers : (marks : ℕ → List ℕ) (xs : List Stream) → HaveAllMarks marks xs → (source : ℕ) (from to tick : ℤ)
+    → length (numbers (met (source_of xs source) (tick +ℤ from) (tick +ℤ to))) ≤ snapshots_met (int_gap from to) (marks (int_gap from to)) source
+few_numbers marks xs h source from to tick =
+    let lo = tick +ℤ from in
+    let hi = tick +ℤ to in
+    let cells = met (source_of xs source) lo hi in
+    let few = subst (λ gap. length cells ≤ snapshots_met gap (marks gap) source) (same_gap tick from to)
+    (few_snapshots lo hi (marks (int_gap lo hi)) xs (h (int_gap lo hi)) source) in
+    omega (arith, length-numbers cells, few)

@@ -15,18 +15,21 @@ use Rattle.tilt_base.specs.declared.operator.Op2.TheVariants.{Add, Sub, Mul, Div
 use Rattle.tilt_base.specs.declared.reducer.Reducer.{Reducer}
 use Rattle.tilt_base.specs.declared.reducer.Reducer.TheVariants as reducer
 use Rattle.tilt_core.specs.CoreTree.{CoreTree, Const, Read, Reduce, Definition, nodes}
-use Rattle.tilt_core.specs.Meaning.{body_of, definition_of, source_of}
+use Rattle.tilt_core.specs.Meaning.{AreGrids, with_definitions, body_of, definition_of, source_of}
 use Rattle.tilt_fractions.specs.Exact.{wide1, wide2}
 use Rattle.tilt_fractions.specs.ExactReduce.{wide_reduce}
-use Rattle.tilt_magnitudes.proofs.Meaning.{as_many, definition_within, expression_within, inputs_within, sources_push}
+use Rattle.tilt_magnitudes.proofs.Marked.{earlier_marks, few_numbers, rows_marks}
+use Rattle.tilt_magnitudes.specs.Marks.{HaveRates, marks_in, snapshots_met}
+use Rattle.tilt_magnitudes.specs.declared.met.Rate.{Rate}
+use Rattle.tilt_magnitudes.proofs.Meaning.{Known, as_many, definition_within, expression_within, inputs_within, sources_push}
 use Rattle.tilt_magnitudes.proofs.Narrowed.{after, number_holds}
 use Rattle.tilt_magnitudes.proofs.Products.{product_within}
 use Rattle.tilt_magnitudes.proofs.Quotients.{negated_within, quotient_within}
 use Rattle.tilt_magnitudes.proofs.Scalars.{differences_within, sums_within}
 use Rattle.tilt_magnitudes.proofs.Sums.{AllWithin, sum_within}
-use Rattle.tilt_magnitudes.proofs.Windows.{few_numbers, numbers_met}
+use Rattle.tilt_magnitudes.proofs.Windows.{numbers_met}
 use Rattle.tilt_magnitudes.specs.Interval.{Interval, Bounds, BoundsCell, counts, difference, hull, interval1, interval2, interval_reduced, negated, product, quotient, sum}
-use Rattle.tilt_magnitudes.specs.Law.{BoundInputs, BoundSources, everywhere}
+use Rattle.tilt_magnitudes.specs.Law.{HaveAllMarks, BoundInputs, BoundSources, everywhere}
 use Rattle.tilt_magnitudes.specs.Magnitude.{interval_at, magnitude, more_magnitudes, narrowed, next_magnitudes}
 use Rattle.tilt_stream.specs.Snap.{Snapshot}
 use Rattle.tilt_stream.specs.Stream.{Stream, stream_of}
@@ -95,59 +98,63 @@ reducer_holds reducer.Last place most a i ns h f few = refl
 reducer_holds reducer.Any place most a i ns h f few = refl
 reducer_holds reducer.All place most a i ns h f few = refl
 
-pub expression_stays : (sources : List Interval) (xs : List Stream) → BoundSources sources xs → (place : Place) (e : CoreTree) (i : Interval)
-    → magnitude sources place e ≡ Ok i → (tick : ℤ) → StaysWithin everywhere xs tick e
-expression_stays sources xs s place (Leaf (Const n)) i h tick = tt
-expression_stays sources xs s place (Leaf (Read source offset)) i h tick = refl
-expression_stays sources xs s place (Leaf (Reduce r source from to)) i h tick =
+pub expression_stays : (marks : ℕ → List ℕ) (sources : List Interval) (xs : List Stream) → Known marks sources xs → (place : Place) (e : CoreTree) (i : Interval)
+    → magnitude marks sources place e ≡ Ok i → (tick : ℤ) → StaysWithin everywhere xs tick e
+expression_stays marks sources xs s place (Leaf (Const n)) i h tick = tt
+expression_stays marks sources xs s place (Leaf (Read source offset)) i h tick = refl
+expression_stays marks sources xs s place (Leaf (Reduce r source from to)) i h tick =
     let a = interval_at sources source in
     let x = source_of xs source in (
       λ other low high. refl,
-      reducer_holds r place (int_gap from to) a i (numbers (met x (tick +ℤ from) (tick +ℤ to))) h (numbers_met a x (s source) (tick +ℤ from) (tick +ℤ to))
-          (few_numbers x from to tick),
+      reducer_holds r place (snapshots_met (int_gap from to) (marks (int_gap from to)) source) a i (numbers (met x (tick +ℤ from) (tick +ℤ to))) h (numbers_met a x (s.bounds source) (tick +ℤ from) (tick +ℤ to))
+          (few_numbers marks xs s.counted source from to tick),
     )
-expression_stays sources xs s place (One op a) i h tick =
-    after (magnitude sources (later place 1) a) (λ x. narrowed place (interval1 op x)) i h (λ x is done. (
-      expression_stays sources xs s (later place 1) a x is tick,
-      one_holds op place x i ((body_of xs a).cell tick) done (expression_within sources xs s (later place 1) a x is tick),
+expression_stays marks sources xs s place (One op a) i h tick =
+    after (magnitude marks sources (later place 1) a) (λ x. narrowed place (interval1 op x)) i h (λ x is done. (
+      expression_stays marks sources xs s (later place 1) a x is tick,
+      one_holds op place x i ((body_of xs a).cell tick) done (expression_within marks sources xs s (later place 1) a x is tick),
     ))
-expression_stays sources xs s place (Two op a b) i h tick =
+expression_stays marks sources xs s place (Two op a b) i h tick =
     let p = later place 1 in
     let q = later place (1 + nodes a) in
-    after (magnitude sources p a) _ i h (λ x is_x more.
-    after (magnitude sources q b) (λ y. narrowed place (interval2 op x y)) i more (λ y is_y done. (
-      expression_stays sources xs s p a x is_x tick,
-      expression_stays sources xs s q b y is_y tick,
+    after (magnitude marks sources p a) _ i h (λ x is_x more.
+    after (magnitude marks sources q b) (λ y. narrowed place (interval2 op x y)) i more (λ y is_y done. (
+      expression_stays marks sources xs s p a x is_x tick,
+      expression_stays marks sources xs s q b y is_y tick,
       two_hold op place x y i ((body_of xs a).cell tick) ((body_of xs b).cell tick) done
-          (expression_within sources xs s p a x is_x tick) (expression_within sources xs s q b y is_y tick),
+          (expression_within marks sources xs s p a x is_x tick) (expression_within marks sources xs s q b y is_y tick),
     )))
-expression_stays sources xs s place (If c a b) i h tick =
+expression_stays marks sources xs s place (If c a b) i h tick =
     let p = later place (1 + nodes c) in
     let q = later place (1 + nodes c + nodes a) in
-    after (magnitude sources (later place 1) c) _ i h (λ z is_z next.
-    after (magnitude sources p a) _ i next (λ x is_x more.
-    after (magnitude sources q b) (λ y. narrowed place (hull x y)) i more (λ y is_y done. (
-      expression_stays sources xs s (later place 1) c z is_z tick,
-      expression_stays sources xs s p a x is_x tick,
-      expression_stays sources xs s q b y is_y tick,
+    after (magnitude marks sources (later place 1) c) _ i h (λ z is_z next.
+    after (magnitude marks sources p a) _ i next (λ x is_x more.
+    after (magnitude marks sources q b) (λ y. narrowed place (hull x y)) i more (λ y is_y done. (
+      expression_stays marks sources xs s (later place 1) c z is_z tick,
+      expression_stays marks sources xs s p a x is_x tick,
+      expression_stays marks sources xs s q b y is_y tick,
     ))))
 
-definitions_stay : (number : ℕ) (sources all : List Interval) (xs : List Stream) (defs : List Definition) → length sources ≡ length xs
-    → BoundSources sources xs → more_magnitudes number sources defs ≡ Ok all → QueryStaysWithin everywhere xs defs
-definitions_stay number sources all xs [] e s h = tt
-definitions_stay number sources all xs (def ∷ defs) e s h =
-    after (next_magnitudes number sources def) (λ next. more_magnitudes (suc number) next defs) all h (λ next is_next rest.
-    after (magnitude sources (start_of number) def.body) (λ i. Ok (sources ++ i ∷ [])) next is_next (λ i is_i done.
+definitions_stay : (marks : ℕ → List ℕ) (number : ℕ) (sources all : List Interval) (xs : List Stream) (defs : List Definition)
+    → length sources ≡ length xs → BoundSources sources xs → HaveAllMarks marks (with_definitions xs defs)
+    → more_magnitudes marks number sources defs ≡ Ok all → QueryStaysWithin everywhere xs defs
+definitions_stay marks number sources all xs [] e s m h = tt
+definitions_stay marks number sources all xs (def ∷ defs) e s m h =
+    let known : Known marks sources xs = record { bounds = s; counted = λ n. earlier_marks n (marks n) xs (def ∷ defs) (m n) } in
+    after (next_magnitudes marks number sources def) (λ next. more_magnitudes marks (suc number) next defs) all h (λ next is_next rest.
+    after (magnitude marks sources (start_of number) def.body) (λ i. Ok (sources ++ i ∷ [])) next is_next (λ i is_i done.
     let is : sources ++ i ∷ [] ≡ next = cc done in
     let x = definition_of xs def in (
-      (λ tick taken at here. expression_stays sources xs s (start_of number) def.body i is_i taken),
-      definitions_stay (suc number) (sources ++ i ∷ []) all (xs ++ x ∷ []) defs
+      (λ tick taken at here. expression_stays marks sources xs known (start_of number) def.body i is_i taken),
+      definitions_stay marks (suc number) (sources ++ i ∷ []) all (xs ++ x ∷ []) defs
           (omega (arith, e, length_push sources i, length_push xs x))
-          (sources_push sources xs i x e s (definition_within sources xs s (start_of number) def i is_i))
-          (subst (λ given. more_magnitudes (suc number) given defs ≡ Ok all) (sym is) rest),
+          (sources_push sources xs i x e s (definition_within marks sources xs known (start_of number) def i is_i)) m
+          (subst (λ given. more_magnitudes marks (suc number) given defs ≡ Ok all) (sym is) rest),
     )))
 
-pub query_stays : (inputs all : List Interval) (rows : List (List Snapshot)) (defs : List Definition) → BoundInputs inputs rows
-    → more_magnitudes 0 inputs defs ≡ Ok all → QueryStaysWithin everywhere (map stream_of rows) defs
-query_stays inputs all rows defs b h =
-    definitions_stay 0 inputs all (map stream_of rows) defs (as_many inputs rows b) (inputs_within inputs rows b) h
+pub query_stays : (inputs all : List Interval) (rates : List Rate) (rows : List (List Snapshot)) (defs : List Definition)
+    → BoundInputs inputs rows → HaveRates rates rows → AreGrids defs
+    → more_magnitudes (marks_in rates defs) 0 inputs defs ≡ Ok all → QueryStaysWithin everywhere (map stream_of rows) defs
+query_stays inputs all rates rows defs b r g h =
+    definitions_stay (marks_in rates defs) 0 inputs all (map stream_of rows) defs (as_many inputs rows b) (inputs_within inputs rows b)
+    (λ n. rows_marks n rates rows defs r g) h

@@ -3,11 +3,9 @@ use Rattle.std.proofs.Common.{◌≡◌, ℕ, zero, suc, ◌≤◌, ℤ, pos, �
 use Rattle.std.specs.Int.{int_gap}
 use Rattle.std.specs.List.{AllByRecursion}
 use Rattle.std.proofs.lemmas.Int.{ints, by_lt_z}
-use Rattle.tilt_base.proofs.Lists.{length-numbers}
-use Rattle.tilt_base.specs.Reduce.{numbers, reduce}
-use Rattle.tilt_base.specs.declared.reducer.Reducer.{Reducer}
-use Rattle.tilt_magnitudes.proofs.Sums.{AllWithin, reduced_within}
-use Rattle.tilt_magnitudes.specs.Interval.{Interval, BoundsCell, interval_reduced}
+use Rattle.tilt_base.specs.Reduce.{numbers}
+use Rattle.tilt_magnitudes.proofs.Sums.{AllWithin}
+use Rattle.tilt_magnitudes.specs.Interval.{Interval, BoundsCell}
 use Rattle.tilt_magnitudes.specs.Law.{BoundsStream}
 use Rattle.tilt_stream.proofs.Cut.{int_gap_is, int_gap_none}
 use Rattle.tilt_stream.specs.Stream.{Stream}
@@ -41,7 +39,7 @@ numbers_within i (None ∷ cells) h = numbers_within i cells h.1
 numbers_within i (Some n ∷ cells) h = (h.0, numbers_within i cells h.1)
 
 -- a window has as many ticks wherever it is
-same_gap : (tick from to : ℤ) → int_gap (tick +ℤ from) (tick +ℤ to) ≡ int_gap from to
+pub same_gap : (tick from to : ℤ) → int_gap (tick +ℤ from) (tick +ℤ to) ≡ int_gap from to
 same_gap tick from to =
     by_lt_z from to
     (λ some.
@@ -52,16 +50,3 @@ same_gap tick from to =
 
 pub numbers_met : (i : Interval) (x : Stream) → BoundsStream i x → (lo hi : ℤ) → AllWithin i (numbers (met x lo hi))
 numbers_met i x h lo hi = numbers_within i (met x lo hi) (met_within i x h true lo (int_gap lo hi))
-
--- a window meets at most as many numbers as it has ticks
-pub few_numbers : (x : Stream) (from to tick : ℤ) → length (numbers (met x (tick +ℤ from) (tick +ℤ to))) ≤ int_gap from to
-few_numbers x from to tick =
-    let cells = met x (tick +ℤ from) (tick +ℤ to) in
-    let few : length cells ≤ int_gap (tick +ℤ from) (tick +ℤ to) = few_met x true (tick +ℤ from) (int_gap (tick +ℤ from) (tick +ℤ to)) in
-    omega (arith, length-numbers cells, few, same_gap tick from to)
-
-pub window_within : (r : Reducer) (from to : ℤ) (i : Interval) (x : Stream) → BoundsStream i x → (tick : ℤ)
-    → BoundsCell (interval_reduced r (int_gap from to) i) (reduce r (numbers (met x (tick +ℤ from) (tick +ℤ to))))
-window_within r from to i x h tick =
-    reduced_within r (int_gap from to) i (numbers (met x (tick +ℤ from) (tick +ℤ to)))
-    (numbers_met i x h (tick +ℤ from) (tick +ℤ to)) (few_numbers x from to tick)

@@ -5,6 +5,7 @@ use Rattle.std.specs.List.{AllByRecursion, AllZip}
 use Rattle.tilt_core.specs.Meaning.{source_of}
 use Rattle.tilt_magnitudes.specs.Interval.{Interval, BoundsCell}
 use Rattle.tilt_magnitudes.specs.Magnitude.{interval_at}
+use Rattle.tilt_magnitudes.specs.Marks.{HaveMarks}
 use Rattle.tilt_stream.specs.Snap.{Snapshot}
 use Rattle.tilt_stream.specs.Stream.{Stream}
 use Rattle.tilt_units.specs.Law.{Chosen}
@@ -28,3 +29,7 @@ BoundInputs inputs rows = AllZip BoundsRows inputs rows
 -- all ticks of each source
 abbrev pub everywhere : Chosen
 everywhere = λ source tick. true
+
+-- each source has at most so many marks in any number of ticks
+abbrev pub HaveAllMarks : (ℕ → List ℕ) → List Stream → Type 0
+HaveAllMarks marks xs = (ticks : ℕ) → HaveMarks ticks (marks ticks) xs

@@ -6,6 +6,8 @@ use Rattle.tilt_base.specs.Expression.{Leaf, One, Two, If}
 use Rattle.tilt_base.specs.Number.{within_64_bits}
 use Rattle.tilt_core.specs.CoreTree.{Const, Read, Reduce, CoreTree, Definition, nodes}
 use Rattle.tilt_magnitudes.specs.Interval.{Interval, only, hull, interval1, interval2, interval_reduced}
+use Rattle.tilt_magnitudes.specs.Marks.{marks_in, snapshots_met}
+use Rattle.tilt_magnitudes.specs.declared.met.Rate.{Rate}
 use Rattle.tilt_magnitudes.specs.declared.overflow.Overflow.{Overflow}
 use Rattle.tilt_magnitudes.specs.declared.fault.MagnitudeFault.{MagnitudeFault}
 use Rattle.tilt_magnitudes.specs.declared.fault.MagnitudeFault.TheVariants as fault
@@ -32,34 +34,34 @@ abbrev pub interval_at : List Interval → ℕ → Interval
 interval_at sources number = slice_index_or sources number (only (pos 0))
 
 -- the interval of an expression at a place, over sources within intervals; or the first node that can leave 64 bits. Operands come before
--- their operator, from left to right. A window meets at most as many snapshots as it has ticks
-abbrev pub magnitude : List Interval → Place → CoreTree → Result Interval Overflow
-magnitude sources place (Leaf (Const number)) = Ok (only number)
-magnitude sources place (Leaf (Read source offset)) = Ok (interval_at sources source)
-magnitude sources place (Leaf (Reduce reducer source from to)) =
-    narrowed place (interval_reduced reducer (int_gap from to) (interval_at sources source))
-magnitude sources place (One op a) =
-    and_then (magnitude sources (later place 1) a) (λ x. narrowed place (interval1 op x))
-magnitude sources place (Two op a b) =
-    and_then (magnitude sources (later place 1) a) (λ x. and_then (magnitude sources (later place (1 + nodes a)) b)
+-- their operator, from left to right. `marks` has how many marks each source can have in so many ticks
+abbrev pub magnitude : (ℕ → List ℕ) → List Interval → Place → CoreTree → Result Interval Overflow
+magnitude marks sources place (Leaf (Const number)) = Ok (only number)
+magnitude marks sources place (Leaf (Read source offset)) = Ok (interval_at sources source)
+magnitude marks sources place (Leaf (Reduce reducer source from to)) =
+    narrowed place (interval_reduced reducer (snapshots_met (int_gap from to) (marks (int_gap from to)) source) (interval_at sources source))
+magnitude marks sources place (One op a) =
+    and_then (magnitude marks sources (later place 1) a) (λ x. narrowed place (interval1 op x))
+magnitude marks sources place (Two op a b) =
+    and_then (magnitude marks sources (later place 1) a) (λ x. and_then (magnitude marks sources (later place (1 + nodes a)) b)
     (λ y. narrowed place (interval2 op x y)))
-magnitude sources place (If c a b) =
-    and_then (magnitude sources (later place 1) c) (λ z. and_then (magnitude sources (later place (1 + nodes c)) a)
-    (λ x. and_then (magnitude sources (later place (1 + nodes c + nodes a)) b) (λ y. narrowed place (hull x y))))
+magnitude marks sources place (If c a b) =
+    and_then (magnitude marks sources (later place 1) c) (λ z. and_then (magnitude marks sources (later place (1 + nodes c)) a)
+    (λ x. and_then (magnitude marks sources (later place (1 + nodes c + nodes a)) b) (λ y. narrowed place (hull x y))))
 
 -- the intervals of sources, and of one more definition, which has a number. A grid and a span change no value, so that a definition has the
 -- interval of its body
-abbrev pub next_magnitudes : ℕ → List Interval → Definition → Result (List Interval) Overflow
-next_magnitudes number sources def = and_then (magnitude sources (start_of number) def.body) (λ i. Ok (sources ++ i ∷ []))
+abbrev pub next_magnitudes : (ℕ → List ℕ) → ℕ → List Interval → Definition → Result (List Interval) Overflow
+next_magnitudes marks number sources def = and_then (magnitude marks sources (start_of number) def.body) (λ i. Ok (sources ++ i ∷ []))
 
 -- and of more definitions, of which the first has a number; each is over the sources before it
-abbrev pub more_magnitudes : ℕ → List Interval → List Definition → Result (List Interval) Overflow
-more_magnitudes number sources [] = Ok sources
-more_magnitudes number sources (def ∷ defs) = and_then (next_magnitudes number sources def) (λ next. more_magnitudes (suc number) next defs)
+abbrev pub more_magnitudes : (ℕ → List ℕ) → ℕ → List Interval → List Definition → Result (List Interval) Overflow
+more_magnitudes marks number sources [] = Ok sources
+more_magnitudes marks number sources (def ∷ defs) = and_then (next_magnitudes marks number sources def) (λ next. more_magnitudes marks (suc number) next defs)
 
--- the intervals of the sources of a query, if the inputs are within these: the inputs in order, then the definitions
-abbrev pub magnitudes : List Interval → List Definition → Result (List Interval) Overflow
-magnitudes inputs defs = more_magnitudes 0 inputs defs
+-- the intervals of the sources of a query, if the inputs are within these and have these rates: the inputs in order, then the definitions
+abbrev pub magnitudes : List Interval → List Rate → List Definition → Result (List Interval) Overflow
+magnitudes inputs rates defs = more_magnitudes (marks_in rates defs) 0 inputs defs
 
 -- a fault has this overflow, or it is out of memory
 abbrev pub IsFault : {A : Type 0} → Result A Overflow → MagnitudeFault → Type 0

@@ -4,24 +4,32 @@ ghost use Rattle.std.specs.Int.{int_gap};
 ghost use Rattle.tilt_base.specs.Number.{within_64_bits};
 ghost use Rattle.tilt_core.specs.CoreTree.{nodes, tree_of};
 ghost use Rattle.tilt_magnitudes.specs.Interval.{only};
-ghost use Rattle.tilt_magnitudes.specs.Magnitude.{interval_at, magnitude, narrowed};
+ghost use Rattle.tilt_magnitudes.specs.Magnitude.{Gives, interval_at, magnitude, narrowed};
+ghost use Rattle.tilt_magnitudes.specs.Marks.{marks_in};
 ghost use Rattle.tilt_units.specs.Scaling.{later};
 
 use crate::arithmetic::{interval_reduced, interval1, interval2};
+use crate::fault::MagnitudeFault;
 use crate::interval::{Interval, WideInterval, hull, only, widen};
+use crate::met::{Rate, snapshots_met};
 use crate::overflow::Overflow;
-use tilt_core::Tree;
+use std::alloc::Global;
+use tilt_core::{Core, Tree};
 use tilt_units::Place;
 
 /// The interval of an expression over sources within these intervals. Otherwise the first node that can leave 64 bits: operands come
 /// before their operator, from left to right.
+#[cycle(magnitude)]
 pub(crate) fn magnitude(
+    alloc: Global,
+    rates: &[Rate],
+    core: &Core,
     sources: &[Interval],
     place: Place,
     tree: &Tree,
-) -> Result<Interval, Overflow>
+) -> Result<Interval, MagnitudeFault>
     requires { place.node + nodes (tree_of tree.now) < 2 ^ 32 }
-    ensures { result ≡ magnitude sources.now place (tree_of tree.now) }
+    ensures { Gives (λ i. i) result (magnitude (marks_in rates.now core.now.defs) sources.now place (tree_of tree.now)) }
 {
     match tree {
         Tree::Const(number) => Ok(only(*number)),
@@ -32,29 +40,30 @@ pub(crate) fn magnitude(
             from,
             to,
         } => {
-            let most = ticks_between(*from, *to);
-            narrow(
+            let ticks = ticks_between(*from, *to);
+            let most = snapshots_met(alloc, rates, core, ticks, *source)?;
+            Ok(narrow(
                 place,
                 interval_reduced(*reducer, most, interval_at(sources, *source)),
-            )
+            )?)
         }
         Tree::One(op, a) => {
-            let a = magnitude(sources, later(place, 1), a)?;
-            narrow(place, interval1(*op, a))
+            let a = magnitude(alloc, rates, core, sources, later(place, 1), a)?;
+            Ok(narrow(place, interval1(*op, a))?)
         }
         Tree::Two(op, a, b) => {
             let second = later(place, 1 + nodes(a));
-            let a = magnitude(sources, later(place, 1), a)?;
-            let b = magnitude(sources, second, b)?;
-            narrow(place, interval2(*op, a, b))
+            let a = magnitude(alloc, rates, core, sources, later(place, 1), a)?;
+            let b = magnitude(alloc, rates, core, sources, second, b)?;
+            Ok(narrow(place, interval2(*op, a, b))?)
         }
         Tree::If(c, a, b) => {
             let second = later(place, 1 + nodes(c));
             let third = later(place, 1 + nodes(c) + nodes(a));
-            magnitude(sources, later(place, 1), c)?;
-            let a = magnitude(sources, second, a)?;
-            let b = magnitude(sources, third, b)?;
-            narrow(place, hull(widen(a), widen(b)))
+            magnitude(alloc, rates, core, sources, later(place, 1), c)?;
+            let a = magnitude(alloc, rates, core, sources, second, a)?;
+            let b = magnitude(alloc, rates, core, sources, third, b)?;
+            Ok(narrow(place, hull(widen(a), widen(b)))?)
         }
     }
 }

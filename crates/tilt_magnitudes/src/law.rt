@@ -7,11 +7,13 @@ ghost use Rattle.tilt_base.specs.declared.operator.Op1.{Op1};
 ghost use Rattle.tilt_base.specs.declared.operator.Op2.{Op2};
 ghost use Rattle.tilt_base.specs.declared.reducer.Reducer.{Reducer};
 ghost use Rattle.tilt_core.specs.CoreTree.{CoreTree, Definition};
-ghost use Rattle.tilt_core.specs.Meaning.{body_of, sources};
+ghost use Rattle.tilt_core.specs.Meaning.{AreGrids, body_of, sources};
 ghost use Rattle.tilt_magnitudes.specs.Interval as interval;
 ghost use Rattle.tilt_magnitudes.specs.Interval.{Bounds, BoundsCell, hull, interval1, interval2, interval_reduced};
-ghost use Rattle.tilt_magnitudes.specs.Law.{BoundInputs, BoundSources, everywhere};
+ghost use Rattle.tilt_magnitudes.specs.Law.{BoundInputs, BoundSources, HaveAllMarks, everywhere};
 ghost use Rattle.tilt_magnitudes.specs.Magnitude.{magnitude, magnitudes};
+ghost use Rattle.tilt_magnitudes.specs.Marks.{HaveRates};
+ghost use Rattle.tilt_magnitudes.specs.declared.met.Rate.{Rate};
 ghost use Rattle.tilt_stream.specs.Snap.{Snapshot};
 ghost use Rattle.tilt_stream.specs.Stream.{Stream, stream_of};
 ghost use Rattle.tilt_units.specs.Law.{QueryStaysWithin, StaysWithin};
@@ -29,17 +31,19 @@ pub fn values_stay_within_bounds()
     ensures reducer { (r : Reducer) (most : ℕ) (a : interval.Interval) (ns : List ℤ) → AllByRecursion (Bounds a) ns → length ns ≤ most
         → BoundsCell (interval_reduced r most a) (reduce r ns) }
     // An expression at a tick, over sources within intervals.
-    ensures expression { (bounds : List interval.Interval) (xs : List Stream) → BoundSources bounds xs
-        → (place : Place) (e : CoreTree) (i : interval.Interval) → magnitude bounds place e ≡ Ok i
+    ensures expression { (marks : ℕ → List ℕ) (bounds : List interval.Interval) (xs : List Stream) → BoundSources bounds xs
+        → HaveAllMarks marks xs
+        → (place : Place) (e : CoreTree) (i : interval.Interval) → magnitude marks bounds place e ≡ Ok i
         → (tick : ℤ) → BoundsCell i ((body_of xs e).cell tick) }
     // A whole query: each of its sources, inputs and definitions.
-    ensures query { (inputs all : List interval.Interval) (rows : List (List Snapshot)) (defs : List Definition) → BoundInputs inputs rows
-        → magnitudes inputs defs ≡ Ok all → BoundSources all (sources rows defs) }
+    ensures query { (inputs all : List interval.Interval) (rates : List Rate) (rows : List (List Snapshot)) (defs : List Definition) → BoundInputs inputs rows
+        → HaveRates rates rows → AreGrids defs → magnitudes inputs rates defs ≡ Ok all → BoundSources all (sources rows defs) }
     // No node of the expression leaves 64 bits: each gives what it gives on whole numbers of any size.
-    ensures no_overflow_in { (bounds : List interval.Interval) (xs : List Stream) → BoundSources bounds xs
-        → (place : Place) (e : CoreTree) (i : interval.Interval) → magnitude bounds place e ≡ Ok i
+    ensures no_overflow_in { (marks : ℕ → List ℕ) (bounds : List interval.Interval) (xs : List Stream) → BoundSources bounds xs
+        → HaveAllMarks marks xs
+        → (place : Place) (e : CoreTree) (i : interval.Interval) → magnitude marks bounds place e ≡ Ok i
         → (tick : ℤ) → StaysWithin everywhere xs tick e }
     // Nor does a node of any definition of the query.
-    ensures no_overflow { (inputs all : List interval.Interval) (rows : List (List Snapshot)) (defs : List Definition)
-        → BoundInputs inputs rows → magnitudes inputs defs ≡ Ok all → QueryStaysWithin everywhere (map stream_of rows) defs }
+    ensures no_overflow { (inputs all : List interval.Interval) (rates : List Rate) (rows : List (List Snapshot)) (defs : List Definition)
+        → BoundInputs inputs rows → HaveRates rates rows → AreGrids defs → magnitudes inputs rates defs ≡ Ok all → QueryStaysWithin everywhere (map stream_of rows) defs }
 {}

@@ -1,11 +1,10 @@
 //! Bounds for each expression of a query, before it runs, and the first one that can leave 64 bits.
 //!
-//! What comes in is an interval for the values of each input, and a core. `magnitudes` gives an interval for each source, or the first
-//! expression that can leave 64 bits, with its place and its exact interval. `specs/Interval` has the interval of what each operator and
-//! each reducer gives, and `specs/Magnitude` those of expressions and queries. By the clauses of `values_stay_within_bounds`, rows within
-//! the intervals of the inputs give values within the intervals of all sources, and no operator and no reducer overflows. A window is
-//! taken to meet as many snapshots as it has ticks. `snapshots_met` gives a sharper count, if it is known how often the snapshots of inputs
-//! start; its law is `windows_meet_few_snapshots`.
+//! What comes in is an interval for the values of each input, how often its snapshots start, and a core. `magnitudes` gives an interval
+//! for each source, or the first expression that can leave 64 bits, with its place and its exact interval. `specs/Interval` has the
+//! interval of what each operator and each reducer gives, and `specs/Magnitude` those of expressions and queries. By the clauses of
+//! `values_stay_within_bounds`, rows within the bounds of the inputs give values within the intervals of all sources, and no operator and
+//! no reducer overflows. `snapshots_met` gives how many snapshots a window can meet; its law is `windows_meet_few_snapshots`.
 #![tactic(auto)]
 
 mod arithmetic;

@@ -1,4 +1,4 @@
-// Queries of one or two inputs, the intervals of these, and what is printed.
+// Queries, the intervals and the rates of their inputs, and what is printed.
 
 /// The ends of the intervals of the inputs, the query, and what is printed of it.
 pub type Case = (&'static [(i64, i64)], &'static str, &'static str);
@@ -115,5 +115,58 @@ pub const CASES: &[Case] = &[
         &[(0, MOST)],
         "input x; let y = 1 + (x + 1); emit y * y over (0, 5];",
         "0.2: 1..9223372036854775808",
+    ),
+];
+
+// At most one snapshot starts in any 60 ticks. So in 600 ticks 11 may start, and a window meets 12.
+const MINUTES: (u64, u64) = (1, 60);
+
+// Nothing is known.
+const ANY: (u64, u64) = (0, 0);
+
+/// The rates of the inputs, and a query.
+pub const RATED: &[(&[(u64, u64)], Case)] = &[
+    (
+        &[MINUTES],
+        (
+            &[(0, 5)],
+            "input x; emit sum(x[t-600:t]) over (0, 5];",
+            "0..5 0..60",
+        ),
+    ),
+    // A short window has no more snapshots than ticks.
+    (
+        &[(1000, 60)],
+        (
+            &[(0, 5)],
+            "input x; emit sum(x[t-7:t]) over (0, 5];",
+            "0..5 0..35",
+        ),
+    ),
+    // On a grid one may start after each grid point, however often those of the input do.
+    (
+        &[ANY],
+        (
+            &[(0, 5)],
+            "input x; let y = x every 60; emit sum(y[t-600:t]) over (0, 5];",
+            "0..5 0..5 0..60",
+        ),
+    ),
+    // Snapshots of a sum start with those of either operand, and snapshots of a window at both of its ends.
+    (
+        &[MINUTES, MINUTES],
+        (
+            &[(0, 5), (0, 5)],
+            "input x; input y; let z = x + y; emit count(z[t-600:t]) over (0, 5];",
+            "0..5 0..5 0..10 1..23",
+        ),
+    ),
+    (
+        &[MINUTES],
+        (
+            &[(0, 5)],
+            "input x; let m = max(x[t-5:t]); emit count(m[t-600:t]) over (0, 5];",
+            "0..5 0..5 1..23",
+        ),
     ),
 ];

@@ -1,8 +1,8 @@
 // The intervals of queries, or their first overflow.
-use crate::cases::{CASES, Case};
+use crate::cases::{CASES, Case, RATED};
 use std::alloc::Global;
 use std::test::Fail;
-use tilt_magnitudes::{Interval, MagnitudeFault, magnitudes};
+use tilt_magnitudes::{Interval, MagnitudeFault, Rate, magnitudes};
 use tilt_testing::core_of;
 
 fn intervals_of(alloc: Global, ends: &[(i64, i64)]) -> Result<Vec<Interval>, Fail> {
@@ -28,11 +28,11 @@ fn shown_all(alloc: Global, intervals: &[Interval]) -> Result<String, Fail> {
 }
 
 // The intervals of the sources; or the definition and the node that can overflow, and its interval.
-fn shown(alloc: Global, case: &Case) -> Result<String, Fail> {
+fn shown(alloc: Global, rates: &[Rate], case: &Case) -> Result<String, Fail> {
     let (ends, text, _) = case;
     let inputs = intervals_of(alloc, ends)?;
     let core = core_of(alloc, text)?;
-    match magnitudes(alloc, &inputs, &core) {
+    match magnitudes(alloc, &inputs, rates, &core) {
         Ok(all) => shown_all(alloc, &all),
         Err(MagnitudeFault::CanOverflow(overflow)) => {
             let place = overflow.place;
@@ -46,11 +46,36 @@ fn shown(alloc: Global, case: &Case) -> Result<String, Fail> {
     }
 }
 
+fn rates_of(alloc: Global, pairs: &[(u64, u64)]) -> Result<Vec<Rate>, Fail> {
+    let mut rates = Vec::new(alloc);
+    for (marks, ticks) in pairs {
+        rates.push(Rate {
+            marks: *marks,
+            ticks: *ticks,
+        })?;
+    }
+    Ok(rates)
+}
+
 #[test]
 fn queries_have_these_bounds(rt: HostRuntime) -> Result<(), Fail> {
     let alloc = rt.alloc();
+    let rates = rates_of(alloc, &[(0, 0), (0, 0)])?;
     for case in CASES {
-        let shown = shown(alloc, case)?;
+        let inputs = case.0.len();
+        let rates = rates.get(..inputs).ok_or("too many inputs")?;
+        let shown = shown(alloc, rates, case)?;
+        assert_eq!(rt; shown.as_str(), case.2);
+    }
+    Ok(())
+}
+
+#[test]
+fn windows_meet_few_snapshots(rt: HostRuntime) -> Result<(), Fail> {
+    let alloc = rt.alloc();
+    for (pairs, case) in RATED {
+        let rates = rates_of(alloc, pairs)?;
+        let shown = shown(alloc, &rates, case)?;
         assert_eq!(rt; shown.as_str(), case.2);
     }
     Ok(())

@@ -10,8 +10,8 @@ returns c = record {
   two = two_within;
   choice = choice_within;
   reducer = reduced_within;
-  expression = expression_within;
+  expression = λ marks bounds xs b m place e i h tick. expression_within marks bounds xs (record { bounds = b; counted = m }) place e i h tick;
   query = query_within;
-  no_overflow_in = expression_stays;
+  no_overflow_in = λ marks bounds xs b m place e i h tick. expression_stays marks bounds xs (record { bounds = b; counted = m }) place e i h tick;
   no_overflow = query_stays;
 }

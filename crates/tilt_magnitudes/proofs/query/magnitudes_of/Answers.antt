@@ -4,4 +4,4 @@ use Rattle.tilt_magnitudes.proofs.query.magnitudes_of.Goals as goal
 
 pub push_magnitude-requires : goal.push_magnitude-requires
 push_magnitude-requires c =
-    small_at c.args.before c.loop-place.place c.args.defs.now c.index-defs-place.result c.requires.definitions (search rules) c.index-defs-place.is
+    small_at c.args.before c.loop-place.place _ c.index-defs-place.result c.loop-place.invariant.definitions (search rules) c.index-defs-place.is
