@@ -104,9 +104,10 @@ expression_stays marks sources xs s place (Leaf (Const n)) i h tick = tt
 expression_stays marks sources xs s place (Leaf (Read source offset)) i h tick = refl
 expression_stays marks sources xs s place (Leaf (Reduce r source from to)) i h tick =
     let a = interval_at sources source in
+    let most = snapshots_met (int_gap from to) (marks (int_gap from to)) source in
     let x = source_of xs source in (
       λ other low high. refl,
-      reducer_holds r place (snapshots_met (int_gap from to) (marks (int_gap from to)) source) a i (numbers (met x (tick +ℤ from) (tick +ℤ to))) h (numbers_met a x (s.bounds source) (tick +ℤ from) (tick +ℤ to))
+      reducer_holds r place most a i (numbers (met x (tick +ℤ from) (tick +ℤ to))) h (numbers_met a x (s.bounds source) (tick +ℤ from) (tick +ℤ to))
           (few_numbers marks xs s.counted source from to tick),
     )
 expression_stays marks sources xs s place (One op a) i h tick =

@@ -36,8 +36,9 @@ pub fn values_stay_within_bounds()
         → (place : Place) (e : CoreTree) (i : interval.Interval) → magnitude marks bounds place e ≡ Ok i
         → (tick : ℤ) → BoundsCell i ((body_of xs e).cell tick) }
     // A whole query: each of its sources, inputs and definitions.
-    ensures query { (inputs all : List interval.Interval) (rates : List Rate) (rows : List (List Snapshot)) (defs : List Definition) → BoundInputs inputs rows
-        → HaveRates rates rows → AreGrids defs → magnitudes inputs rates defs ≡ Ok all → BoundSources all (sources rows defs) }
+    ensures query { (inputs all : List interval.Interval) (rates : List Rate) (rows : List (List Snapshot)) (defs : List Definition)
+        → BoundInputs inputs rows → HaveRates rates rows → AreGrids defs → magnitudes inputs rates defs ≡ Ok all
+        → BoundSources all (sources rows defs) }
     // No node of the expression leaves 64 bits: each gives what it gives on whole numbers of any size.
     ensures no_overflow_in { (marks : ℕ → List ℕ) (bounds : List interval.Interval) (xs : List Stream) → BoundSources bounds xs
         → HaveAllMarks marks xs
@@ -45,5 +46,6 @@ pub fn values_stay_within_bounds()
         → (tick : ℤ) → StaysWithin everywhere xs tick e }
     // Nor does a node of any definition of the query.
     ensures no_overflow { (inputs all : List interval.Interval) (rates : List Rate) (rows : List (List Snapshot)) (defs : List Definition)
-        → BoundInputs inputs rows → HaveRates rates rows → AreGrids defs → magnitudes inputs rates defs ≡ Ok all → QueryStaysWithin everywhere (map stream_of rows) defs }
+        → BoundInputs inputs rows → HaveRates rates rows → AreGrids defs → magnitudes inputs rates defs ≡ Ok all
+        → QueryStaysWithin everywhere (map stream_of rows) defs }
 {}
