@@ -1,0 +1,4 @@
+mod Moments
+mod Opening
+mod Serving
+mod Steps

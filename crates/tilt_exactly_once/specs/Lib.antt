@@ -1,0 +1,4 @@
+pub mod Committed
+pub mod Halts
+pub mod Opening
+pub mod Serving

@@ -1,0 +1,19 @@
+//! A feed that is served into a folder exactly once, whatever machine makes the output.
+//!
+//! What comes in is an open ledger, a machine that turns the bytes of a feed into output, and a port from which the feed is read. What goes
+//! out is a folder: its output with the machine's state, committed together. `specs/Committed` says what a folder holds of a feed. The
+//! clause `served` of `Keeper::serve` is the theorem: whatever kills the program at whatever moment, the folder holds the commit of a front
+//! of what was read. `specs/Serving` has its parts.
+#![tactic(auto)]
+
+mod halt;
+mod keeper;
+mod machine;
+mod refusal;
+mod start;
+
+pub use halt::{Halt, Stop};
+pub use keeper::Keeper;
+pub use machine::{Machine, Resumed, Started};
+pub use refusal::{Refusal, StartError};
+pub use start::open;
