@@ -1,4 +1,5 @@
 mod Moments
 mod Opening
+mod Running
 mod Serving
 mod Steps

@@ -1,14 +1,13 @@
 -- A folder that was opened, and what it goes on from.
-use Rattle.std.proofs.Common.{◌≡◌, ⊎_elim, ℕ, ◌==◌, true, List, [], ◌∷◌, length, arith, Result, Ok, Err, IfErr, IfOk, refl, sym, ◌∙◌, ap, subst}
+use Rattle.std.proofs.Common.{◌≡◌, ℕ, ◌==◌, true, List, [], ◌∷◌, length, arith, Result, Ok, Err, IfErr, IfOk, refl, sym, ◌∙◌, ap, subst}
 use Rattle.std.proofs.lemmas.Bool.Decides.{nat_tests}
-use Rattle.tilt_exactly_once.proofs.Moments.{leaves-none, leaves-wider}
-use Rattle.tilt_exactly_once.proofs.Steps.{holds-same}
+use Rattle.tilt_exactly_once.proofs.Moments.{leaves-wider}
 use Rattle.tilt_exactly_once.specs.Committed.{Holds, IsOf}
 use Rattle.tilt_exactly_once.specs.Opening.{IsAt}
-use Rattle.tilt_store.specs.Commit.{Commit, or_initial}
+use Rattle.tilt_store.specs.Commit.{Commit}
 use Rattle.tilt_store.specs.Crash.{LeavesOnly}
 use Rattle.tilt_store.specs.Kept.{Kept}
-use Rattle.tilt_store.specs.Open.{IsOpen, IsReopened, OpensSame, SameCommit}
+use Rattle.tilt_store.specs.Open.{IsReopened, OpensSame}
 use Rattle.tilt_store.specs.declared.open_error.OpenError.{OpenError}
 
 abbrev ok_or : Commit → Result Commit OpenError → Commit
@@ -22,34 +21,11 @@ module _ (Is : List ℕ → Commit → Type 0) (bytes : List ℕ) where
       let same : holds.commit ≡ record { output = now.output; state = state } = ap (ok_or holds.commit) (sym holds.resumes ∙ reopened.same) in
       record { is = subst (IsOf Is bytes) same holds.is; committed = reopened.committed }
 
-  pub at-holds : (now : Kept) (state : List ℕ) → IsAt Is bytes now state → Holds Is bytes now
-  at-holds now state at = record { commit = record { output = now.output; state = state }; resumes = ap (or_initial []) at.committed; is = at.is }
-
   -- a crash while it was opened leaves the same
   pub opens-holds : (was c : Kept) → Holds Is bytes was → OpensSame [] was c → Holds Is bytes c
   opens-holds was c holds opens = record { commit = holds.commit; resumes = opens.same ∙ holds.resumes; is = holds.is }
 
-  -- if there is a state, something was begun
-  pub begun : (now : Kept) (state : List ℕ) → IsAt Is bytes now state → (state ≡ [] → ⊥) → Is bytes (record { output = now.output; state = state })
-  begun now state at some = ⊎_elim (λ none. absurd (some (ap (λ (c : Commit). c.state) none.1))) (λ is. is) at.is
-
-  -- and otherwise nothing
-  pub unbegun : (now : Kept) → IsAt Is bytes now [] → ((c : Commit) → Is bytes c → c.state ≡ [] → ⊥) → (bytes ≡ []) × (now.output ≡ [])
-  unbegun now at some = ⊎_elim (λ none. (none.0, ap (λ (c : Commit). c.output) none.1)) (λ is. absurd (some (record { output = now.output; state = [] }) is refl)) at.is
-
-  module _ {F : Type 0} (seen : F → Kept) (may_leave : F → Kept → Type 0) (moment : F → ℕ) (left_since : F → ℕ → Kept → Type 0) (folder : F) where
-    -- nothing happens to an open folder
-    pub open-leaves : IsOpen (seen folder) (may_leave folder) → ((c : Kept) → left_since folder (moment folder) c → may_leave folder c) → Holds Is bytes (seen folder)
-        → LeavesOnly moment left_since folder folder (Holds Is bytes)
-    open-leaves ready only_now holds =
-        leaves-none moment left_since folder (Holds Is bytes) (λ c left. holds-same Is bytes (seen folder) c holds (ready.left c (only_now c left) ∙ sym ready.there))
-
-    -- bytes are appended
-    pub append-leaves : (later : F) → Holds Is bytes (seen folder) → LeavesOnly moment left_since folder later (SameCommit (seen folder))
-        → LeavesOnly moment left_since folder later (Holds Is bytes)
-    append-leaves later holds step =
-        leaves-wider moment left_since folder later (SameCommit (seen folder)) (Holds Is bytes) (λ c same. holds-same Is bytes (seen folder) c holds same) step
-
+  module _ {F : Type 0} (seen : F → Kept) (moment : F → ℕ) (left_since : F → ℕ → Kept → Type 0) (folder : F) where
     -- it is opened
     pub opening-leaves : (later : F) → Holds Is bytes (seen folder) → LeavesOnly moment left_since folder later (OpensSame [] (seen folder))
         → LeavesOnly moment left_since folder later (Holds Is bytes)

@@ -1,9 +1,9 @@
 -- What a folder holds after appends and commits.
-use Rattle.std.proofs.Common.{◌⊎◌, inr, ⊎_elim, ℕ, List, [], ◌++◌, refl, sym, ◌∙◌, ap, subst, append_assoc, append-nil}
+use Rattle.std.proofs.Common.{◌⊎◌, ⊎_elim, ℕ, List, [], ◌++◌, refl, sym, ◌∙◌, ap, subst, append_assoc, append-nil}
 use Rattle.tilt_exactly_once.specs.Committed.{Holds, HoldsFront}
 use Rattle.tilt_store.specs.Commit.{Commit, or_initial}
 use Rattle.tilt_store.specs.Kept.{Kept}
-use Rattle.tilt_store.specs.Open.{HasCommitted, SameCommit}
+use Rattle.tilt_store.specs.Open.{SameCommit}
 
 module _ (Is : List ℕ → Commit → Type 0) where
   -- the last commit is the same
@@ -34,9 +34,6 @@ module _ (Is : List ℕ → Commit → Type 0) where
   pub front-none : (bytes : List ℕ) (c : Kept) → Holds Is bytes c → HoldsFront Is bytes [] c
   front-none bytes c holds = record { front = []; rest = []; parts = refl; holds = subst (λ (l : List ℕ). Holds Is l c) (sym (append-nil bytes)) holds }
 
-  -- a commit of these bytes was made
-  pub holds-new : (bytes output state : List ℕ) (c : Kept) → Is bytes (record { output = output; state = state }) → HasCommitted output state c → Holds Is bytes c
-  holds-new bytes output state c is committed = record { commit = record { output = output; state = state }; resumes = ap (or_initial []) committed; is = inr is }
-
+  -- a step that commits or doesn't
   pub front-either : (bytes read : List ℕ) (old c : Kept) → HoldsFront Is bytes read old → SameCommit old c ⊎ Holds Is (bytes ++ read) c → HoldsFront Is bytes read c
   front-either bytes read old c held step = ⊎_elim (front-same bytes read old c held) (front-whole bytes read c) step

@@ -1,4 +1,5 @@
 pub mod Committed
 pub mod Halts
 pub mod Opening
+pub mod Runs
 pub mod Serving

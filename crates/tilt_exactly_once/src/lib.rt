@@ -8,12 +8,14 @@
 
 mod halt;
 mod keeper;
+mod law;
 mod machine;
 mod refusal;
 mod start;
 
 pub use halt::{Halt, Stop};
 pub use keeper::Keeper;
+pub use law::runs_hold_a_front;
 pub use machine::{Machine, Resumed, Started};
 pub use refusal::{Refusal, StartError};
 pub use start::open;

@@ -1,7 +1,7 @@
 // A folder, opened to serve a feed into it.
 ghost use Rattle.std.specs.Prelude.{◌≡◌, ◌<◌, ◌≤◌, ℕ, List, [], length, IfErr, IfOk, MatchResult};
 ghost use Rattle.tilt_exactly_once.specs.Committed.{Holds};
-ghost use Rattle.tilt_exactly_once.specs.Opening.{IsAt, IsStarted};
+ghost use Rattle.tilt_exactly_once.specs.Opening.{IsAt, IsCause, IsCauseIn, IsFault, IsPassing, IsStarted};
 ghost use Rattle.tilt_outside.specs.Faults.{Rose};
 ghost use Rattle.tilt_store.specs.Crash.{LeavesOnly, Only};
 ghost use Rattle.tilt_store.specs.Open.{IsOpen};
@@ -26,6 +26,10 @@ pub fn open<F: Folder, M: Machine + Drop>(
         folder keeper.ledger.folder keeper.machine keeper.written bytes) }
     ensures any_moment { F.tells → (bytes : List ℕ) → Holds (M.commits (M.of recipe)) bytes (F.seen folder)
         → IfErr result (λ e. LeavesOnly F.moment F.left_since folder e.1 (Holds (M.commits (M.of recipe)) bytes)) }
+    ensures taken { F.tells → (bytes : List ℕ) → Holds (M.commits (M.of recipe)) bytes (F.seen folder)
+        → IfErr result (λ e. IsPassing e.0) }
+    ensures cause { F.tells → IfErr result (λ e. IsCause (M.rejects recipe) (F.seen folder) e.0) }
+    ensures failed { IfErr result (λ e. IsFault e.0 → Rose (F.faults folder) (F.faults e.1)) }
     ensures sound { IfOk result (λ keeper. M.sound keeper.machine) }
     ensures is_open { F.tells → IfOk result (λ keeper. IsOpen (F.seen keeper.ledger.folder) (F.may_leave keeper.ledger.folder)) }
 {
@@ -48,6 +52,10 @@ fn begin<F: Folder, M: Machine + Drop>(
         ledger.folder keeper.ledger.folder keeper.machine keeper.written bytes) }
     ensures any_moment { F.tells → (bytes : List ℕ) → IsAt (M.commits (M.of recipe)) bytes (F.seen ledger.folder) state.now
         → IfErr result (λ e. LeavesOnly F.moment F.left_since ledger.folder e.1 (Holds (M.commits (M.of recipe)) bytes)) }
+    ensures taken { F.tells → (bytes : List ℕ) → IsAt (M.commits (M.of recipe)) bytes (F.seen ledger.folder) state.now
+        → IfErr result (λ e. IsPassing e.0) }
+    ensures cause { IfErr result (λ e. IsCauseIn (M.rejects recipe) state.now e.0) }
+    ensures failed { IfErr result (λ e. IsFault e.0 → Rose (F.faults ledger.folder) (F.faults e.1)) }
     ensures sound { IfOk result (λ keeper. M.sound keeper.machine) }
     ensures is_open { F.tells → IfOk result (λ keeper. IsOpen (F.seen keeper.ledger.folder) (F.may_leave keeper.ledger.folder)) }
 {
@@ -72,6 +80,9 @@ fn begin_new<F: Folder, M: Machine + Drop>(
         ledger.folder keeper.ledger.folder keeper.machine keeper.written bytes) }
     ensures any_moment { F.tells → (bytes : List ℕ) → IsAt (M.commits (M.of recipe)) bytes (F.seen ledger.folder) []
         → IfErr result (λ e. LeavesOnly F.moment F.left_since ledger.folder e.1 (Holds (M.commits (M.of recipe)) bytes)) }
+    ensures taken { IfErr result (λ e. IsPassing e.0) }
+    ensures cause { (state : List ℕ) → IfErr result (λ e. IsCauseIn (M.rejects recipe) state e.0) }
+    ensures failed { IfErr result (λ e. IsFault e.0 → Rose (F.faults ledger.folder) (F.faults e.1)) }
     ensures sound { IfOk result (λ keeper. M.sound keeper.machine) }
     ensures is_open { F.tells → IfOk result (λ keeper. IsOpen (F.seen keeper.ledger.folder) (F.may_leave keeper.ledger.folder)) }
 {
