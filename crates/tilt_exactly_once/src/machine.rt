@@ -22,7 +22,8 @@ pub struct Resumed<M> {
     pub written: u64,
 }
 
-/// What turns the bytes of a feed into output, and can hand on its state as text. Code that is generic over a machine knows only this of it.
+/// What turns the bytes of a feed into output, and can hand on its state as text. Code that is generic over a machine knows only this of
+/// it.
 pub trait Machine {
     ghost use Rattle.tilt_exactly_once.specs.declared.refusal.Refusal.{Refusal};
 
