@@ -1,6 +1,7 @@
 // A port in memory.
 ghost use Rattle.std.specs.Prelude.{◌≡◌, ◌<◌, ◌≤◌, ◌+◌, ◌-◌, ◌++◌, ◌↔◌, ◌∷◌, [], ⊤, ℕ, false};
 ghost use Rattle.std.specs.Prelude.{drop, find, length, min, nat_lt, take, vec_len, vec_capacity, All, IfOk, IsErr, OnOk, OnErr};
+ghost use Rattle.tilt_outside.specs.Counts.{added_count};
 ghost use Rattle.tilt_outside.specs.Faults.{HasCause};
 ghost use Rattle.tilt_port.specs.MemPort.{after_flush, after_flush_fault, after_read, after_read_fault, after_write, after_write_fault};
 ghost use Rattle.tilt_port.specs.MemPort.{count_read, next_end, transcript_of, FlushFails, ReadFails, WriteFails};
@@ -283,5 +284,12 @@ impl Port for MemPort {
         }
         self.handed_on = self.written.len();
         Ok(())
+    }
+
+    /// A part of a piece counts too if its write failed.
+    fn count_written(&self) -> u64
+        ensures { ⊤ → result ≡ added_count 0 (length (transcript_of self.now).written) }
+    {
+        self.written.len() as u64
     }
 }

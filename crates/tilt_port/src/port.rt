@@ -1,5 +1,6 @@
 // What bytes are read from and written to, in one order.
 ghost use Rattle.std.specs.Prelude.{◌≡◌, ◌<◌, ◌≤◌, length, IfOk, OnOk};
+ghost use Rattle.tilt_outside.specs.Counts.{added_count};
 ghost use Rattle.tilt_outside.specs.Faults.{HasCause};
 ghost use Rattle.tilt_port.specs.Transcript.{HasRead, Keeps, Transcript, Writes};
 
@@ -34,4 +35,8 @@ pub trait Port {
         ensures keeps { tells → Keeps (transcript self.old) (transcript self.new) }
         ensures cause { HasCause (transcript self.old).write_faults (transcript self.new).write_faults result }
         ensures reads { (transcript self.new).read_faults ≡ (transcript self.old).read_faults };
+
+    /// How many bytes were written so far. The count stops at the end of 64 bits.
+    fn count_written(&self) -> u64
+        ensures { tells → result ≡ added_count 0 (length (transcript self.now).written) };
 }

@@ -1,8 +1,9 @@
 // A port over a reader and a writer of the standard library.
 ghost use Rattle.std.specs.Io.KnownBytes.{Appends, Keeps as KeepsBytes, ReadConsumes};
 ghost use Rattle.std.specs.Prelude.{◌≡◌, ◌<◌, ◌≤◌, ⊤, [], false, length, IfOk, OnOk, IsOk};
+ghost use Rattle.tilt_outside.specs.Counts.{added_count};
 ghost use Rattle.tilt_outside.specs.Faults.{HasCause};
-ghost use Rattle.tilt_port.specs.StdPort.{counts_of, faults_after};
+ghost use Rattle.tilt_port.specs.StdPort.{counts_of, faults_after, written_after};
 ghost use Rattle.tilt_port.specs.Transcript.{HasRead, Keeps, Writes};
 
 use crate::port::Port;
@@ -23,6 +24,7 @@ const TRIES: u32 = 1_000_000;
 pub struct StdPort<R: Read + Drop, W: Write + Drop> {
     reader: R,
     writer: BufWriter<W>,
+    written: u64,
     read_faults: u64,
     write_faults: u64,
 }
@@ -38,6 +40,7 @@ impl<R: Read + Drop, W: Write + Drop> Model for StdPort<R, W> {
       remaining = R.remaining p.reader;
       contents = writer_contents W.contents p.writer;
       held_back = length (writer_buffer p.writer);
+      written = p.written;
       read_faults = p.read_faults;
       write_faults = p.write_faults;
     } };
@@ -50,6 +53,7 @@ impl<R: Read + Drop, W: Write + Drop> StdPort<R, W> {
           remaining = R.remaining reader;
           contents = W.contents writer;
           held_back = 0;
+          written = 0;
           read_faults = 0;
           write_faults = 0;
         }) }
@@ -58,6 +62,7 @@ impl<R: Read + Drop, W: Write + Drop> StdPort<R, W> {
             Ok(writer) => Ok(StdPort {
                 reader,
                 writer,
+                written: 0,
                 read_faults: 0,
                 write_faults: 0,
             }),
@@ -98,8 +103,10 @@ impl<R: Read + Drop, W: Write + Drop> Port for StdPort<R, W> {
         ensures bytes { OnOk result (Appends self.old.contents self.new.contents piece.now) }
         ensures remaining { self.new.remaining ≡ self.old.remaining }
         ensures faults { self.new.write_faults ≡ faults_after self.old.write_faults result }
+        ensures written { self.new.written ≡ written_after self.old.written (length piece.now) result }
     {
         if self.writer.write_all(piece).is_ok() {
+            self.written = self.written.saturating_add(piece.len() as u64);
             return Ok(());
         }
         self.write_faults = self.write_faults.saturating_add(1);
@@ -115,6 +122,7 @@ impl<R: Read + Drop, W: Write + Drop> Port for StdPort<R, W> {
 
         ensures bytes { KeepsBytes self.old.contents self.new.contents }
         ensures remaining { self.new.remaining ≡ self.old.remaining }
+        ensures written { self.new.written ≡ self.old.written }
         ensures faults { self.new.write_faults ≡ faults_after self.old.write_faults result }
     {
         if self.writer.flush().is_ok() {
@@ -122,6 +130,15 @@ impl<R: Read + Drop, W: Write + Drop> Port for StdPort<R, W> {
         }
         self.write_faults = self.write_faults.saturating_add(1);
         Err(Failed)
+    }
+
+    /// Of a write that failed no byte is counted.
+    fn count_written(&self) -> u64
+        ensures count { ⊥ → result ≡ added_count 0 (length (counts_of self.now).written) }
+
+        ensures exact { result ≡ self.now.written }
+    {
+        self.written
     }
 }
 

@@ -55,6 +55,7 @@ fn moments_show_what_is_held_back(rt: HostRuntime) -> Result<(), Fail> {
     ];
     assert_eq!(rt; port.asked(), moments.as_slice());
     assert_eq!(rt; port.written(), b"abc|123".as_slice());
+    assert_eq!(rt; port.count_written(), 7);
     Ok(())
 }
 
@@ -89,6 +90,7 @@ fn a_read_returns_what_there_is_after_an_interruption(rt: HostRuntime) -> Result
     };
     let mut port = StdPort::new(rt.alloc(), reader, &mut written)?;
     assert_eq!(rt; echo_pieces(&mut port, 3), Err(Failed));
+    assert_eq!(rt; port.count_written(), 4);
     drop(port);
     assert_eq!(rt; written.as_slice(), b"x|x|".as_slice());
     Ok(())
