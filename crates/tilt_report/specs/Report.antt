@@ -54,6 +54,9 @@ pub data Reason : Type 0 where
   no_such_part : ℕ → Reason
   bad_step : ℕ → Reason
   step_type : ℕ → Reason
+  bad_state : Reason
+  other_query : Reason
+  other_options : Reason
   no_such_row : Reason
   overlaps : Snapshot → Reason
   bad_edit : ℕ → Reason
@@ -93,6 +96,9 @@ reason_of (code.PartOutside at) = part_outside at
 reason_of (code.NoSuchPart part) = no_such_part part
 reason_of (code.BadStep step) = bad_step step
 reason_of (code.StepType step) = step_type step
+reason_of code.BadState = bad_state
+reason_of code.OtherQuery = other_query
+reason_of code.OtherOptions = other_options
 reason_of code.NoSuchRow = no_such_row
 reason_of (code.Overlaps row) = overlaps row
 reason_of (code.BadEdit line) = bad_edit line
@@ -246,6 +252,9 @@ reason_words (part_outside at) = codes "56 part outside: " ++ signed_decimal at
 reason_words (no_such_part part) = codes "57 no such part: " ++ decimal part
 reason_words (bad_step step) = codes "53 bad step " ++ decimal step
 reason_words (step_type step) = codes "54 step " ++ decimal step ++ codes ": type"
+reason_words bad_state = codes "55 bad state"
+reason_words other_query = codes "58 state of another query"
+reason_words other_options = codes "59 state of other options"
 reason_words no_such_row = codes "60 no such row"
 reason_words (overlaps row) = codes "61 overlaps " ++ row_words row
 reason_words (bad_edit line) = codes "62 bad edit in line " ++ decimal line

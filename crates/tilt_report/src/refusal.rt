@@ -99,6 +99,12 @@ pub enum Refusal<'a> {
         /// The number of the step, counted from 1.
         step: u32,
     },
+    /// The file isn't the text of the state of a live run.
+    BadState,
+    /// The file is the state of a run of another query.
+    OtherQuery,
+    /// The file is the state of a run with other options of its watermarks.
+    OtherOptions,
     /// A correction names a row that isn't there.
     NoSuchRow,
     /// A correction adds a row that would overlap another.
@@ -162,6 +168,9 @@ impl Refusal<'_> {
             Refusal::NoSuchPart { part } => put_no_part(err, *part),
             Refusal::BadStep { step } => put_counted(err, b"53 bad step ", u64::from(*step)),
             Refusal::StepType { step } => put_step_type(err, *step),
+            Refusal::BadState => put_text(err, b"55 bad state"),
+            Refusal::OtherQuery => put_text(err, b"58 state of another query"),
+            Refusal::OtherOptions => put_text(err, b"59 state of other options"),
             Refusal::NoSuchRow => put_text(err, b"60 no such row"),
             Refusal::Overlaps { row } => put_overlaps(err, row),
             Refusal::BadEdit { line } => put_counted(err, b"62 bad edit in line ", *line),
