@@ -11,8 +11,9 @@ use tilt_base::FILE;
 use tilt_outside::{ReadAllFault, Shelf, read_all};
 use tilt_report::{Fault, Refusal};
 
-/// The bytes of the file of that name.
-pub(crate) fn load<'a, S: Shelf>(
+/// The bytes of the file of that name. `Refused` comes if it has more bytes than a file may have, `ReadFault` if a read failed, and
+/// `OutOfMemory` only if there was no memory.
+pub fn load<'a, S: Shelf>(
     alloc: Global,
     shelf: &mut S,
     name: &'a str,

@@ -1,5 +1,5 @@
 //! From the files that the arguments name to what they say: a query with its core, a pipeline of operators with the core of its query, or
-//! a checkpoint. Also a loop code, the rows of each input, and edits of the rows.
+//! a checkpoint. Also a loop code, the rows of each input, and edits of the rows. `load` is for files whose bytes another crate reads.
 //!
 //! The calls are given a shelf, names of files and binds. They return the query, the pipeline, the checkpoint, the code, the rows or the
 //! edits, or the first fault. The clauses `taken` say what was read, by `specs/QueryFile`, `specs/FlowFile`, `specs/CheckpointFile`,
@@ -25,6 +25,7 @@ pub use checkpoint_file::{LoadedCheckpoint, load_checkpoint};
 pub use code_file::load_code;
 pub use cuts::cuts_by;
 pub use edits_file::load_edits;
+pub use file::load;
 pub use flow_file::{LoadedFlow, load_flow};
 pub use inputs::{load_inputs, load_session_inputs};
 pub use query_file::{LoadedQuery, load_query, read_query};
