@@ -1,15 +1,18 @@
 -- Serving a feed, one step after another.
 use Rattle.std.proofs.Common.{◌≡◌, ◌≤◌, ℕ, true, false, ◌&&◌, if◌then◌else◌, List, [], ◌∷◌, ◌++◌, take, Result, Ok, Err, OnOk, OnErr, MatchResult, refl, sym, ap, is_err, ◌∙◌, append_assoc, append-nil, arith}
 use Rattle.std.specs.List.{AllByRecursion}
+use Rattle.tilt_compiler.specs.Accepted.{AcceptedParts}
 use Rattle.tilt_core.specs.Core.{CoreParts}
 use Rattle.tilt_live_app.specs.Served.{HasEnded, HasServed, IsPunctual, IsServing, Start, all_reports, ends_badly, halt_of, has_stop, line_reports, output_for, start_after}
 use Rattle.tilt_live_app.specs.declared.failure.Halt.{Halt}
 use Rattle.tilt_live_app.specs.declared.failure.Halt.TheVariants as halt
+use Rattle.tilt_live_app.specs.Serving.{GoesOn, IsRunAt}
 use Rattle.tilt_live_run.proofs.Reporting.{front-behind, front-more, front-whole, reported-none, reported-then}
 use Rattle.tilt_live_run.proofs.Stepping.{added-more, reported-more, stopped-more}
 use Rattle.tilt_live_run.specs.Adds.{Adds}
 use Rattle.tilt_live_run.specs.Reported.{Reported, Reports}
 use Rattle.tilt_live_run.specs.Runs.{added, end_report, is_stopped, is_unfinished, reported}
+use Rattle.tilt_live_run.specs.declared.live_run.LiveRun.{LiveRun}
 use Rattle.tilt_live_run.specs.declared.run_options.RunOptions.{RunOptions}
 use Rattle.tilt_live_run.specs.declared.stop.Stop.{Stop}
 use Rattle.tilt_live_run.specs.declared.stop.Stop.TheVariants as stop
@@ -129,30 +132,6 @@ module _ (core : CoreParts) (options : RunOptions) (start : Start) where
       write_fault = λ e. adds.rose (halt-write why e);
       reads_kept = omega (arith, adds.reads);
       writes_kept = adds.kept;
-    }
-
-    -- nothing was done at all, for lack of memory
-    pub served-refused : (old : Transcript) (err : K) (result : Result (Unit {0}) Halt) → result ≡ Err halt.OutOfMemory
-        → HasServed core options start tells old old err_tells err_written err_faults err err result
-    served-refused old err result is = rw is record {
-      bytes = [];
-      moments = [];
-      read = λ _. sym (append-nil old.read);
-      asked = λ _. sym (append-nil old.asked);
-      punctual = λ _. tt;
-      whole = λ _ e. absurd (cc e);
-      written_unread = λ _ e. absurd (cc e);
-      front = λ _. record { front = []; rest = output_for core options start []; parts = refl; appended = sym (append-nil old.written) };
-      reported = λ e. absurd (cc e);
-      reported_unread = λ e. absurd (cc e);
-      reported_front = front-whole err_tells err_written err_faults err err [] _ (reported-none err_tells err_written err_faults err);
-      ended = λ _. tt;
-      well = tt;
-      badly = λ e. absurd (cc e);
-      read_fault = λ e. absurd (cc e);
-      write_fault = λ e. absurd (cc e);
-      reads_kept = omega arith;
-      writes_kept = omega arith;
     }
 
     module _ (old : Transcript) (err : K) (bytes : List ℕ) (moments : List Moment) where
@@ -333,3 +312,14 @@ module _ (core : CoreParts) (options : RunOptions) (start : Start) where
             reads_kept = omega (arith, serving.reads_kept, reads, adds.reads);
             writes_kept = omega (arith, serving.writes_kept, writes, adds.kept);
           }
+
+-- nothing was read yet by the run, and what comes before all that it reads was written
+pub going-begun : {K T : Type 0} (accepted : AcceptedParts) (options : RunOptions) (start : Start) (tells : Type 0) (old new : Transcript) (err_tells : Type 0)
+    (err_written : K → List ℕ) (err_faults : K → ℕ) (err : K) (run : LiveRun) (x : T) → IsRunAt run accepted options start.before → Adds tells old new start.head (Ok x)
+    → GoesOn accepted options start tells old new err_tells err_written err_faults err err run
+going-begun accepted options start tells old new err_tells err_written err_faults err run x at adds = record {
+  bytes = [];
+  moments = [];
+  at = rw (append-nil start.before) at;
+  serving = serving-begun accepted.core options start tells err_tells err_written err_faults old new err x adds;
+}

@@ -1,4 +1,6 @@
+pub mod Ending
 pub mod Feeding
 pub mod Flushing
 pub mod Living
 pub mod OneCommand
+pub mod States

@@ -1,31 +1,52 @@
 -- Why a feed isn't begun.
-use Rattle.std.proofs.Common.{◌≡◌, ℕ, List, refl}
-use Rattle.tilt_live_app.specs.Arguments.{CommandValue, IsLiveCommand}
-use Rattle.tilt_cli.specs.declared.fault.WordsFault.{WordsFault}
-use Rattle.tilt_cli.specs.declared.fault.WordsFault.TheVariants.{OutOfMemory, Usage}
-use Rattle.tilt_live_app.specs.Lived.{IsUnbegun}
-use Rattle.tilt_live_app.specs.Lived.IsUnbegun.{no_command, no_memory, refused, unread}
+use Rattle.std.proofs.Common.{◌≡◌, ℕ, List, Option, Some, Ok, ap, sym, subst, ◌∙◌}
+use Rattle.tilt_bounds.specs.Margins.{margins_of}
+use Rattle.tilt_checkpoint.specs.Valid.{IsAccepted}
+use Rattle.tilt_compiler.specs.Accepted.{AcceptedParts, IsAccepted as IsCompiled}
+use Rattle.tilt_core.specs.Core.{CoreParts}
+use Rattle.tilt_live_app.specs.Arguments.{CommandValue}
+use Rattle.tilt_live_app.specs.Begun.{HasTaken, IsUnbegun, no_memory, refused, state_refused, state_unread, unread}
+use Rattle.tilt_live_app.specs.Change.{shelf_change}
+use Rattle.tilt_live_app.specs.StateFile.{RefusesState}
 use Rattle.tilt_load.specs.Load.{IsLoadFault}
 use Rattle.tilt_load.specs.QueryFile.{RefusesQuery}
-use Rattle.tilt_port.specs.Transcript.{Transcript}
-use Rattle.tilt_report.specs.Report.{Report, out_of_memory, read_fault, refusal, report_of_words, save_fault, usage, write_fault}
+use Rattle.tilt_outside.proofs.Puts.{rose_from}
+use Rattle.tilt_outside.specs.Reads.{OnlyReads}
+use Rattle.tilt_report.specs.Report.{Report, out_of_memory, read_fault, refusal, save_fault, usage, write_fault}
+use Rattle.tilt_syntax.specs.Query.{IsQuery}
+use Rattle.tilt_syntax.specs.Tree.{StatementTree}
+use Rattle.tilt_types.proofs.CheckedCore.{checked-core}
+use Rattle.tilt_types.specs.Checked.{checked}
 
--- arguments that weren't read
-pub words-unbegun : {K : Type 0} (words : List (List ℕ)) (shelf_tells : Type 0) (files : List ℕ → List ℕ) (reads reads_then : ℕ) (tells : Type 0) (old new : Transcript)
-    (err_tells : Type 0) (err_written : K → List ℕ) (err_faults : K → ℕ) (fault : WordsFault) → (fault ≡ Usage → (command : CommandValue) → ¬ (IsLiveCommand words command))
-    → IsUnbegun words shelf_tells files reads reads_then tells old new err_tells err_written err_faults (report_of_words fault)
-words-unbegun words shelf_tells files reads reads_then tells old new err_tells err_written err_faults Usage none = no_command (none refl)
-words-unbegun words shelf_tells files reads reads_then tells old new err_tells err_written err_faults OutOfMemory none = no_memory
+module _ {S : Type 0} (tells : Type 0) (files : S → List ℕ → List ℕ) (read_faults save_faults : S → ℕ) (takes : S → List ℕ → ℕ → Type 0) (command : CommandValue) where
+  -- a query that wasn't loaded
+  pub load-unbegun : (old new : S) (report : Report)
+      → IsLoadFault tells (RefusesQuery command.query (files old command.query)) (λ which. which ≡ command.query) (read_faults old) (read_faults new) report
+      → IsUnbegun (shelf_change tells files read_faults save_faults old new) command report
+  load-unbegun old new usage fault = absurd fault
+  load-unbegun old new (refusal why) fault = refused fault
+  load-unbegun old new (read_fault name) fault = rw fault.1 (unread fault.0)
+  load-unbegun old new write_fault fault = absurd fault
+  load-unbegun old new (save_fault name) fault = absurd fault
+  load-unbegun old new out_of_memory fault = no_memory
 
--- a query that wasn't loaded
-pub load-unbegun : {K : Type 0} (words : List (List ℕ)) (shelf_tells : Type 0) (files : List ℕ → List ℕ) (reads reads_then : ℕ) (tells : Type 0) (old new : Transcript)
-    (err_tells : Type 0) (err_written : K → List ℕ) (err_faults : K → ℕ) (command : CommandValue) (report : Report) → IsLiveCommand words command
-    → IsLoadFault shelf_tells (RefusesQuery command.query (files command.query)) (λ which. which ≡ command.query) reads reads_then report
-    → IsUnbegun words shelf_tells files reads reads_then tells old new err_tells err_written err_faults report
-load-unbegun words shelf_tells files reads reads_then tells old new err_tells err_written err_faults command usage said fault = absurd fault
-load-unbegun words shelf_tells files reads reads_then tells old new err_tells err_written err_faults command (refusal why) said fault = refused command said fault
-load-unbegun words shelf_tells files reads reads_then tells old new err_tells err_written err_faults command (read_fault name) said fault =
-    rw fault.1 (unread command said fault.0)
-load-unbegun words shelf_tells files reads reads_then tells old new err_tells err_written err_faults command write_fault said fault = absurd fault
-load-unbegun words shelf_tells files reads reads_then tells old new err_tells err_written err_faults command (save_fault name) said fault = absurd fault
-load-unbegun words shelf_tells files reads reads_then tells old new err_tells err_written err_faults command out_of_memory said fault = no_memory
+  -- a state that wasn't loaded, after the query was
+  pub state-unbegun : (old mid new : S) (file : List ℕ) (query : List StatementTree) (core : CoreParts) → OnlyReads files read_faults save_faults takes old mid
+      → command.resume ≡ Some file → HasTaken tells (files old command.query) query core → (report : Report)
+      → IsLoadFault tells (RefusesState query command.options.watermarks file (files mid file)) (λ which. which ≡ file) (read_faults mid) (read_faults new) report
+      → IsUnbegun (shelf_change tells files read_faults save_faults old new) command report
+  state-unbegun old mid new file query core reads is taken usage fault = absurd fault
+  state-unbegun old mid new file query core reads is taken (refusal why) fault =
+      let same = ap (λ (held : List ℕ → List ℕ). held file) reads.same_files in
+      state_refused file query core is taken (λ t. subst (λ (bytes : List ℕ). RefusesState query command.options.watermarks file bytes why) same (fault t))
+  state-unbegun old mid new file query core reads is taken (read_fault name) fault =
+      rw fault.1 (state_unread file is (rose_from (read_faults old) (read_faults mid) (read_faults new) reads.no_fewer_read_faults fault.0))
+  state-unbegun old mid new file query core reads is taken write_fault fault = absurd fault
+  state-unbegun old mid new file query core reads is taken (save_fault name) fault = absurd fault
+  state-unbegun old mid new file query core reads is taken out_of_memory fault = no_memory
+
+-- a query that was accepted is one that a state may be of
+pub accepted-query : (query : List StatementTree) (a : AcceptedParts) → IsQuery query → checked query ≡ Ok a.core → IsCompiled a → IsAccepted query
+accepted-query query a parsed well kept =
+    let core = checked-core query a.core well in
+    record { parsed = parsed; well_formed = well ∙ ap Ok (sym core); margins = a.margins; near = subst (λ (k : CoreParts). margins_of k ≡ Ok a.margins) (sym core) kept.near }

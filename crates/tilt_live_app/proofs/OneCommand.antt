@@ -5,7 +5,7 @@ use Rattle.std.specs.declared.alloc.Global.{Global}
 use Rattle.tilt_cli.specs.Arguments.{ArgumentsValue, AreArguments, no_arguments}
 use Rattle.tilt_cli.specs.Binding.{binding_of, bindings_of}
 use Rattle.tilt_cli.specs.Command.{texts}
-use Rattle.tilt_cli.specs.Options.{is_set}
+use Rattle.tilt_cli.specs.Options.{is_set, set_to, text_of}
 use Rattle.tilt_cli.specs.declared.bind.Bind.{Bind}
 use Rattle.tilt_cli.proofs.Determined.{same_arguments}
 use Rattle.tilt_live_app.specs.Arguments.{CommandValue, IsLiveCommand, live_options, run_options}
@@ -38,11 +38,14 @@ module _ (words : List (List ℕ)) (query : List ℕ) (rest : List (List ℕ)) (
 
     -- they are no other command
     pub only_said : (command : CommandValue) → command.query ≡ query → command.plain ≡ is_set (codes "--plain") given.settings
-        → command.options ≡ run_options given.settings → (other : CommandValue) → IsLiveCommand words other → other ≡ command
-    only_said command queries plains options other is =
+        → command.options ≡ run_options given.settings → command.resume ≡ text_of (set_to (codes "--resume") given.settings)
+        → command.save ≡ text_of (set_to (codes "--save") given.settings) → (other : CommandValue) → IsLiveCommand words other → other ≡ command
+    only_said command queries plains options resumes saves other is =
         let words_same : query ∷ rest ≡ other.query ∷ is.rest = sym front ∙ is.words_are in
         let same = same_given other is in
         let query_same : other.query ≡ command.query = cc in
         let plain_same = is.plain_is ∙ ap (λ (g : ArgumentsValue). is_set (codes "--plain") g.settings) same ∙ sym plains in
         let options_same = is.options_are ∙ ap (λ (g : ArgumentsValue). run_options g.settings) same ∙ sym options in
-        λ i. record { query = query_same i; plain = plain_same i; options = options_same i }
+        let resume_same = is.resume_is ∙ ap (λ (g : ArgumentsValue). text_of (set_to (codes "--resume") g.settings)) same ∙ sym resumes in
+        let save_same = is.save_is ∙ ap (λ (g : ArgumentsValue). text_of (set_to (codes "--save") g.settings)) same ∙ sym saves in
+        λ i. record { query = query_same i; plain = plain_same i; options = options_same i; resume = resume_same i; save = save_same i }

@@ -1,4 +1,9 @@
 pub mod Arguments
+pub mod Begun
+pub mod Change
+pub mod Keeping
 pub mod Lived
+pub mod Resumed
 pub mod Served
 pub mod Serving
+pub mod StateFile

@@ -40,9 +40,13 @@ pub record Start : Type 0 where
 abbrev pub first_start : CoreParts → RunOptions → Start
 first_start core options = record { head = first_news options.with_begun core; before = [] }
 
--- the place after bytes that were served from there: nothing is written before more is read
+-- the byte after these, which an earlier run took: nothing is written before more is read
+abbrev pub start_at : List ℕ → Start
+start_at bytes = record { head = []; before = bytes }
+
+-- the place after bytes that were served from there
 abbrev pub start_after : Start → List ℕ → Start
-start_after start bytes = record { head = []; before = start.before ++ bytes }
+start_after start bytes = start_at (start.before ++ bytes)
 
 module _ (core : CoreParts) (options : RunOptions) (start : Start) where
   -- what is written for bytes of a feed that come then

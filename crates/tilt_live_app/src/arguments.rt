@@ -1,7 +1,8 @@
 // The arguments of the program.
-ghost use Rattle.std.specs.Prelude.{◌≡◌, IfOk, MatchResult};
+ghost use Rattle.std.specs.Prelude.{◌≡◌, IfOk, MatchResult, codes, option_map, string_bytes};
 ghost use Rattle.tilt_cli.specs.Arguments.{AreArguments, ArgumentsValue, arguments_of, no_arguments};
 ghost use Rattle.tilt_cli.specs.Command.{texts};
+ghost use Rattle.tilt_cli.specs.Options.{set_to, text_of};
 ghost use Rattle.tilt_cli.specs.declared.fault.WordsFault.TheVariants.{Usage};
 ghost use Rattle.tilt_live_app.specs.Arguments.{CommandValue, IsLiveCommand, command_value, live_options, run_options};
 
@@ -11,7 +12,7 @@ use tilt_live_run::RunOptions;
 use tilt_watermarks::Options;
 
 // What the arguments ask for.
-#[derive(Clone, Copy, Debug)]
+#[derive(Drop)]
 pub(crate) struct LiveCommand<'a> {
     // The file of the query.
     pub(crate) query: &'a str,
@@ -19,10 +20,14 @@ pub(crate) struct LiveCommand<'a> {
     pub(crate) plain: bool,
     // What is asked of the run.
     pub(crate) options: RunOptions,
+    // The file of the state that it goes on from, if it goes on from one.
+    pub(crate) resume: Option<String>,
+    // The file in which its state is saved, if it is.
+    pub(crate) save: Option<String>,
 }
 
 // All options, each with what it does.
-const LIVE_OPTIONS: [OptionRow; 6] = [
+const LIVE_OPTIONS: [OptionRow; 8] = [
     // prints also what has begun
     OptionRow {
         word: "--begun",
@@ -53,6 +58,16 @@ const LIVE_OPTIONS: [OptionRow; 6] = [
         word: "--ahead",
         shape: Shape::Ticks,
     },
+    // goes on from the state in a file
+    OptionRow {
+        word: "--resume",
+        shape: Shape::Text,
+    },
+    // saves the state when the feed has ended
+    OptionRow {
+        word: "--save",
+        shape: Shape::Text,
+    },
 ];
 
 // The command that the arguments are.
@@ -71,15 +86,32 @@ pub(crate) fn read_command(alloc: Global, words: &[String]) -> Result<LiveComman
     if !is_file(query) {
         return Err(WordsFault::Usage);
     }
-    let given = read_options(alloc, rest)?;
+    let mut given = read_options(alloc, rest)?;
     if !given.binds.is_empty() {
         return Err(WordsFault::Usage);
     }
+    let plain = given.has("--plain");
+    let options = run_options(&given);
+    let (resume, save) = state_files(&mut given);
     Ok(LiveCommand {
         query,
-        plain: given.has("--plain"),
-        options: run_options(&given),
+        plain,
+        options,
+        resume,
+        save,
     })
+}
+
+// The files of the state to go on from and of the state to save. Both options are taken out.
+fn state_files(given: &mut Arguments) -> (Option<String>, Option<String>)
+    ensures resume { option_map (λ text. string_bytes text) result.0
+        ≡ text_of (set_to (codes "--resume") (arguments_of given.old).settings) }
+    ensures save { option_map (λ text. string_bytes text) result.1
+        ≡ text_of (set_to (codes "--save") (arguments_of given.old).settings) }
+{
+    let resume = given.remove_text("--resume");
+    let save = given.remove_text("--save");
+    (resume, save)
 }
 
 // The arguments after the file of the query.

@@ -1,4 +1,4 @@
-// Why the program ends before its feed does.
+// Why the program doesn't do all that it is to do.
 ghost use Rattle.std.specs.Prelude.{◌≡◌};
 
 use std::alloc::AllocError;
@@ -43,11 +43,15 @@ impl From<AllocError> for Halt {
     }
 }
 
-// Why the program ends before its feed does.
+// Why not all is done.
 #[derive(Drop)]
 pub(crate) enum Failure<'a> {
     // The feed wasn't begun.
     Unbegun(Fault<'a>),
     // The feed wasn't served to its end.
     Halted(Halt),
+    // The feed was served to its end, and the save of its state in the file of this name failed.
+    Unsaved(&'a str),
+    // The feed was served to its end, and there was no memory for its state.
+    Unmade,
 }

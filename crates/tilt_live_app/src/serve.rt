@@ -1,15 +1,18 @@
-// The feed of a query, served from its first byte to its last.
-ghost use Rattle.std.specs.Prelude.{◌≡◌, ◌<◌, ℕ, length, IfOk, MatchResult};
+// The feed of a query, served from where its run starts to its last byte.
+ghost use Rattle.std.specs.Prelude.{◌≡◌, ◌<◌, ℕ, Ok, Err, length, IfOk, MatchResult};
 ghost use Rattle.tilt_compiler.specs.Accepted.{AcceptedParts};
-ghost use Rattle.tilt_live_app.specs.Served.{HasServed, Start, end_with, first_start};
-ghost use Rattle.tilt_live_app.specs.Serving.{GoesOn, HasStepped, WasServed};
+ghost use Rattle.tilt_live_app.specs.Resumed.{IsFitFor, StartsAt};
+ghost use Rattle.tilt_live_app.specs.Served.{HasEnded, HasServed, Start, end_with};
+ghost use Rattle.tilt_live_app.specs.Serving.{GoesOn, HasStepped, IsRunAt, WasServed};
+ghost use Rattle.tilt_live_run.specs.Left.{KeepsState};
 ghost use Rattle.tilt_live_run.specs.Runs.{IsSound};
+ghost use Rattle.tilt_live_run.specs.declared.run_options.RunOptions.{RunOptions};
 ghost use Rattle.tilt_port.specs.Transcript.{Moment, Transcript};
 
+use crate::begin::Begin;
 use crate::failure::Halt;
 use std::alloc::{AllocError as OutOfMemory, Global};
-use tilt_compiler::Accepted;
-use tilt_live_run::{LiveRun, RunOptions};
+use tilt_live_run::{Keep, LiveRun};
 use tilt_outside::{Failed, Sink};
 use tilt_port::Port;
 
@@ -23,24 +26,52 @@ enum Progress {
     Ended,
 }
 
-// Serves the feed of a query.
+// Serves the feed of a query to its end, and returns the run of it. It goes on from a state, if there is one.
 pub(crate) fn serve<P: Port, E: Sink>(
     alloc: Global,
-    accepted: Accepted,
-    options: RunOptions,
+    begin: Begin,
+    port: &mut P,
+    err: &mut E,
+) -> Result<LiveRun, Halt>
+    requires fit { IsFitFor begin.accepted.core begin.options.watermarks begin.from }
+    requires lines { (n : ℕ) → E.takes err.old n }
+    ensures served { (start : Start) → StartsAt begin.options begin.accepted.core begin.from start
+        → MatchResult result
+        (λ run. HasEnded begin.accepted.core begin.options start P.tells (P.transcript port.old) (P.transcript port.new)
+        E.tells E.written E.faults err.old err.new (IsRunAt run begin.accepted begin.options) (Ok tt))
+        (λ why. HasServed begin.accepted.core begin.options start P.tells (P.transcript port.old) (P.transcript port.new)
+        E.tells E.written E.faults err.old err.new (Err why)) }
+    ensures handed_on { MatchResult result (λ _. (P.transcript port.new).held_back ≡ 0)
+        (λ why. why ≡ Halt.BadLine → (P.transcript port.new).held_back ≡ 0) }
+    ensures sound { IfOk result IsSound }
+    ensures keeps { begin.keep ≡ Keep.State → IfOk result KeepsState }
+    ensures takes { (n : ℕ) → E.takes err.new n }
+{
+    let mut run = begin.run(alloc, port)?;
+    serve_run(alloc, &mut run, port, err)?;
+    Ok(run)
+}
+
+// Serves what is left of the feed of a run, and hands on all of the output.
+fn serve_run<P: Port, E: Sink>(
+    alloc: Global,
+    run: &mut LiveRun,
     port: &mut P,
     err: &mut E,
 ) -> Result<(), Halt>
-    requires { (n : ℕ) → E.takes err.old n }
-    ensures served { HasServed accepted.core options (first_start accepted.core options) P.tells
-        (P.transcript port.old) (P.transcript port.new) E.tells E.written E.faults err.old err.new result }
+    requires lines { (n : ℕ) → E.takes err.old n }
+    requires sound { IsSound run.old }
+    ensures served { (accepted : AcceptedParts) (options : RunOptions) (start : Start) (old : Transcript) (reports : E)
+        → GoesOn accepted options start P.tells old (P.transcript port.old) E.tells E.written E.faults reports err.old run.old
+        → WasServed accepted options start P.tells old (P.transcript port.new) E.tells E.written E.faults reports err.new run.new result }
     ensures handed_on { MatchResult result (λ _. (P.transcript port.new).held_back ≡ 0)
         (λ why. why ≡ Halt.BadLine → (P.transcript port.new).held_back ≡ 0) }
+    ensures keeps { KeepsState run.old → KeepsState run.new }
+    ensures sound { IsSound run.new }
     ensures takes { (n : ℕ) → E.takes err.new n }
 {
     let mut room = make_room(alloc, PIECE)?;
-    let mut run = LiveRun::start(alloc, accepted, options, port)?;
-    let end = serve_all(&mut run, &mut room, port, err);
+    let end = serve_all(run, &mut room, port, err);
     let flushed = port.flush();
     end_with(end, flushed)
 }
@@ -75,6 +106,8 @@ fn serve_all<P: Port, E: Sink>(
     ensures served { (accepted : AcceptedParts) (options : RunOptions) (start : Start) (old : Transcript) (reports : E)
         → GoesOn accepted options start P.tells old (P.transcript port.old) E.tells E.written E.faults reports err.old run.old
         → WasServed accepted options start P.tells old (P.transcript port.new) E.tells E.written E.faults reports err.new run.new result }
+    ensures keeps { KeepsState run.old → KeepsState run.new }
+    ensures sound { IsSound run.new }
     ensures takes { (n : ℕ) → E.takes err.new n }
 {
     for _ in 0..u64::MAX {
@@ -100,6 +133,7 @@ fn serve_more<P: Port, E: Sink>(
     ensures stepped { (accepted : AcceptedParts) (options : RunOptions) (start : Start) (old : Transcript) (reports : E)
         → GoesOn accepted options start P.tells old (P.transcript port.old) E.tells E.written E.faults reports err.old run.old
         → HasStepped accepted options start P.tells old (P.transcript port.new) E.tells E.written E.faults reports err.new run.new result }
+    ensures keeps { KeepsState run.old → KeepsState run.new }
     ensures sound { IsSound run.new }
     ensures length { length room.new ≡ length room.old }
     ensures takes { (n : ℕ) → E.takes err.new n }

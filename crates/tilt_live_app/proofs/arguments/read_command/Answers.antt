@@ -17,4 +17,6 @@ pub returns-clause-only : goal.returns-clause-only
 returns-clause-only c =
     let query = c.as_str-query.result.now in
     let front = front_texts c.args.words.now c.in-Some.first.now c.in-Some.rest.now query c.in-Some.ensures.cases.0 c.as_str-query.ensures.value in
-    only_said _ query (texts c.in-Some.rest.now) front (arguments_of c.in_ok-given.given) c.in_ok-given.ensures _ refl c.has.ensures c.run_options.ensures
+    only_said _ query (texts c.in-Some.rest.now) front (arguments_of c.in_ok-given.given) c.in_ok-given.ensures _ refl c.has-plain.ensures
+    c.run_options-options.ensures
+    c.state_files-resume.ensures.resume c.state_files-resume.ensures.save

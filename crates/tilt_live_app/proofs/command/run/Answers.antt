@@ -1,18 +1,57 @@
-use Rattle.std.proofs.Common.{refl}
-use Rattle.tilt_live_app.proofs.Living.{load-unbegun, words-unbegun}
+use Rattle.std.proofs.Common.{ℕ, List, Option, Some, String, Global, refl, ap, sym, ◌∙◌, option_map, string_bytes}
+use Rattle.std.proofs.lemmas.Option.{none-some}
+use Rattle.tilt_live_app.proofs.Ending.{kept-first, rest-first, run-halted, run-kept, run-unkept, takes-first}
 use Rattle.tilt_live_app.specs.Arguments.{command_value}
-use Rattle.tilt_report.specs.Report.{report_of}
 use Rattle.tilt_live_app.proofs.command.run.Goals as goal
 
+abbrev file_bytes : Option (String Global) → Option (List ℕ)
+file_bytes file = option_map (λ text. string_bytes text) file
+
 pub returns-in-Err-clause-is : goal.returns-in-Err-clause-is
-returns-in-Err-clause-is g c = (rw c.from.ensures (words-unbegun _ _ _ _ _ _ _ _ _ _ _ c.in-Err.fault c.in-Err.ensures.is), refl, refl)
+returns-in-Err-clause-is g c = (c.in-Err.ensures.fault, refl, refl)
 
-pub load_query-requires : goal.load_query-requires
-load_query-requires g c = c.requires.lent (command_value c.in-Ok.command) c.in-Ok.ensures.is
+pub returns-in-Err-serve-clause-is : goal.returns-in-Err-serve-clause-is
+returns-in-Err-serve-clause-is g c =
+    let job = c.in-Ok.job in
+    run-halted _ _ _ _ _ _ _ (command_value c.args.command.now) _ _
+    (record { query = job.query; core = job.accepted.core; taken = c.in-Ok.ensures.taken; from = job.from; goes_on = c.in-Ok.ensures.goes_on })
+    c.in-Err-serve.halt c.in-Err-serve.ensures.served c.in-Err-serve.ensures.handed_on
 
-pub returns-clause-is : goal.returns-clause-is
-returns-clause-is g c = (
-  load-unbegun _ _ _ _ _ _ _ _ _ _ _ (command_value c.in-Ok.command) (report_of c.in-Err-load_query.fault) c.in-Ok.ensures.is c.in-Err-load_query.ensures.fault,
-  refl,
-  refl,
-)
+pub returns-in-None-clause-is : goal.returns-in-None-clause-is
+returns-in-None-clause-is g c =
+    let job = c.in-Ok.job in
+    run-unkept _ _ _ _ _ _ _ (command_value c.args.command.now) _ _
+    (record { query = job.query; core = job.accepted.core; taken = c.in-Ok.ensures.taken; from = job.from; goes_on = c.in-Ok.ensures.goes_on })
+    c.in-Ok-serve.served.run job.accepted refl c.in-Ok-serve.ensures.handed_on c.in-Ok-serve.ensures.served (ap file_bytes c.in-None.is)
+
+pub save-requires-clause-keeps : goal.save-requires-clause-keeps
+save-requires-clause-keeps g c = c.in-Ok-serve.ensures.keeps (c.keep_for-keep.ensures (string_bytes c.in-Some.name) (ap file_bytes c.in-Some.is))
+
+pub save-requires-clause-room : goal.save-requires-clause-room
+save-requires-clause-room g c = λ n.
+    (c.in-Ok.ensures.rest.same_takes _ n).0 (c.requires.saves c.as_str.result.now n (ap file_bytes c.in-Some.is ∙ ap Some (sym c.as_str.ensures.value)))
+
+pub returns-in-Some-clause-is : goal.returns-in-Some-clause-is
+returns-in-Some-clause-is g c =
+    let job = c.in-Ok.job in
+    let served = c.in-Ok-serve.served in
+    let name = c.as_str.result.now in
+    run-kept _ _ _ _ _ _ _ (command_value c.args.command.now) _ _
+    (record { query = job.query; core = job.accepted.core; taken = c.in-Ok.ensures.taken; from = job.from; goes_on = c.in-Ok.ensures.goes_on })
+    served.run job.accepted refl c.in-Ok-serve.ensures.handed_on c.in-Ok-serve.ensures.served c.in-Ok.ensures.accepted.0 c.in-Ok.ensures.accepted.1
+    served.written c.in-Ok-serve.ensures.written name (ap file_bytes c.in-Some.is ∙ ap Some (sym c.as_str.ensures.value)) c.save.result
+    (rw c.in-Ok-serve.ensures.query at (kept-first g.S.Shelf.tells g.S.Shelf.files g.S.Shelf.read_faults g.S.Shelf.save_faults g.S.Shelf.takes c.args.shelf.now
+    c.load_job.new.shelf c.save.new.shelf c.in-Ok.ensures.rest served.run served.query served.written name c.save.result c.save.ensures.kept))
+
+pub returns-in-Some-clause-rest : goal.returns-in-Some-clause-rest
+returns-in-Some-clause-rest g c =
+    rest-first g.S.Shelf.tells g.S.Shelf.files g.S.Shelf.read_faults g.S.Shelf.save_faults g.S.Shelf.takes c.args.shelf.now c.load_job.new.shelf c.save.new.shelf
+    c.in-Ok.ensures.rest c.save.result c.save.ensures.rest
+
+pub returns-in-Some-clause-unsaved : goal.returns-in-Some-clause-unsaved
+returns-in-Some-clause-unsaved g c = λ none. absurd (none-some (string_bytes c.in-Some.name) (sym none ∙ ap file_bytes c.in-Some.is))
+
+pub returns-in-Some-clause-takes : goal.returns-in-Some-clause-takes
+returns-in-Some-clause-takes g c = λ name n.
+    takes-first g.S.Shelf.tells g.S.Shelf.files g.S.Shelf.read_faults g.S.Shelf.save_faults g.S.Shelf.takes c.args.shelf.now c.load_job.new.shelf c.save.new.shelf
+    c.in-Ok.ensures.rest name n (c.save.ensures.takes name n)

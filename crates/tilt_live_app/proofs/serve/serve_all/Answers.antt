@@ -5,7 +5,7 @@ use Rattle.tilt_live_app.specs.declared.failure.Halt.TheVariants as halt
 use Rattle.tilt_live_app.proofs.serve.serve_all.Goals as goal
 
 pub loop-init : goal.loop-init
-loop-init g c = record { takes = c.requires.lines; sound = c.requires.sound; of = λ accepted options start old reports going. going }
+loop-init g c = record { takes = c.requires.lines; sound = c.requires.sound; keeps = λ keeps. keeps; of = λ accepted options start old reports going. going }
 
 pub serve_more-requires-clause-lines : goal.serve_more-requires-clause-lines
 serve_more-requires-clause-lines g c = c.loop.invariant.takes
@@ -26,6 +26,7 @@ pub loop-preserved : goal.loop-preserved
 loop-preserved g c = record {
   takes = c.serve_more.ensures.takes;
   sound = c.serve_more.ensures.sound;
+  keeps = λ keeps. c.serve_more.ensures.keeps (c.loop.invariant.keeps keeps);
   of = λ accepted options start old reports going.
       rw c.in-More.is at (c.in_ok-serve_more.ensures.stepped accepted options start old reports (c.loop.invariant.of accepted options start old reports going));
 }
@@ -38,6 +39,18 @@ returns-clause-served g c = λ accepted options start old reports going.
           (λ e. absurd (cc e)) here.serving;
       is = tt;
     }
+
+pub returns-in_err-serve_more-clause-keeps : goal.returns-in_err-serve_more-clause-keeps
+returns-in_err-serve_more-clause-keeps g c = λ keeps. c.serve_more.ensures.keeps (c.loop.invariant.keeps keeps)
+
+pub returns-in-Ended-clause-keeps : goal.returns-in-Ended-clause-keeps
+returns-in-Ended-clause-keeps g c = λ keeps. c.serve_more.ensures.keeps (c.loop.invariant.keeps keeps)
+
+pub returns-clause-keeps : goal.returns-clause-keeps
+returns-clause-keeps g c = c.loop.invariant.keeps
+
+pub returns-clause-sound : goal.returns-clause-sound
+returns-clause-sound g c = c.loop.invariant.sound
 
 pub returns-clause-takes : goal.returns-clause-takes
 returns-clause-takes g c = c.loop.invariant.takes

@@ -3,7 +3,7 @@ use Rattle.std.proofs.lemmas.Result.{err_from_is_err_and}
 use Rattle.tilt_live_app.proofs.Feeding.{read-failed, served-ended, served-halted, served-stopped, serving-kept, serving-more, when-done, when-failed}
 use Rattle.tilt_live_app.specs.Served.{halt_of}
 use Rattle.tilt_live_app.specs.declared.failure.Halt.TheVariants as halt
-use Rattle.tilt_live_run.specs.Runs.{IsRunOf}
+use Rattle.tilt_live_run.specs.Runs.{IsPlaced, IsRunOf}
 use Rattle.tilt_outside.proofs.Puts.{rose_from}
 use Rattle.tilt_live_app.proofs.serve.serve_more.Goals as goal
 
@@ -39,8 +39,8 @@ returns-in_err-end-clause-stepped g c = λ accepted options start old reports go
     rw (p.1 ∙ ap Err p.2) (served-ended accepted.core options start _ _ _ _ old reports going.bytes going.moments _ _ c.read.new.room c.args.err.now
     (when-done c.flush.result _ c.if-is_err.ensures.value c.flush.ensures.handed_on) c.read.ensures.cause.kept c.read.ensures.writes flushed
     c.end.new.err _ (Err (halt_of c.in_err-end.field-0.0)) (Err c.in_err-end.field-0.0) (rw c.if-count-eq0.true at c.in-Ok.ensures.read) refl
-    (c.in_err-end.ensures.reports accepted options (start.before ++ going.bytes) going.is)
-    (c.in_err-end.ensures.stops accepted options (start.before ++ going.bytes) going.is) going.is)
+    (c.in_err-end.ensures.reports accepted options (start.before ++ going.bytes) going.at.is)
+    (c.in_err-end.ensures.stops accepted options (start.before ++ going.bytes) going.at.is) going.at)
 
 pub returns-then-count-eq0-clause-stepped : goal.returns-then-count-eq0-clause-stepped
 returns-then-count-eq0-clause-stepped g c = λ accepted options start old reports going.
@@ -49,8 +49,8 @@ returns-then-count-eq0-clause-stepped g c = λ accepted options start old report
     served-ended accepted.core options start _ _ _ _ old reports going.bytes going.moments _ _ c.read.new.room c.args.err.now
     (when-done c.flush.result _ c.if-is_err.ensures.value c.flush.ensures.handed_on) c.read.ensures.cause.kept c.read.ensures.writes flushed
     c.end.new.err _ (Ok tt) (Ok tt) (rw c.if-count-eq0.true at c.in-Ok.ensures.read) refl
-    (c.in_ok-end.ensures.reports accepted options (start.before ++ going.bytes) going.is)
-    (c.in_ok-end.ensures.stops accepted options (start.before ++ going.bytes) going.is) going.is
+    (c.in_ok-end.ensures.reports accepted options (start.before ++ going.bytes) going.at.is)
+    (c.in_ok-end.ensures.stops accepted options (start.before ++ going.bytes) going.at.is) going.at
 
 pub returns-in_err-take-clause-stepped : goal.returns-in_err-take-clause-stepped
 returns-in_err-take-clause-stepped g c = λ accepted options start old reports going.
@@ -61,9 +61,9 @@ returns-in_err-take-clause-stepped g c = λ accepted options start old reports g
       served = served-stopped accepted.core options start _ _ _ _ old reports going.bytes going.moments _ _ c.read.new.room c.args.err.now
           (when-done c.flush.result _ c.if-is_err.ensures.value c.flush.ensures.handed_on) c.read.ensures.cause.kept c.read.ensures.writes flushed
           c.in-Ok.count _ c.take.new.err c.in-Ok.ensures.read c.in_err-take.field-0.0
-          (c.in_err-take.ensures.adds accepted options (start.before ++ going.bytes) going.is)
-          (c.in_err-take.ensures.reports accepted options (start.before ++ going.bytes) going.is)
-          (c.in_err-take.ensures.stops accepted options (start.before ++ going.bytes) going.is);
+          (c.in_err-take.ensures.adds accepted options (start.before ++ going.bytes) going.at.is)
+          (c.in_err-take.ensures.reports accepted options (start.before ++ going.bytes) going.at.is)
+          (c.in_err-take.ensures.stops accepted options (start.before ++ going.bytes) going.at.is);
       is = tt;
     })
 
@@ -74,12 +74,16 @@ returns-clause-stepped g c = λ accepted options start old reports going.
     record {
       bytes = going.bytes ++ take c.in-Ok.count c.read.new.room;
       moments = _;
-      is = subst (λ (all : List ℕ). IsRunOf c.take.new.self accepted options all) (append_assoc start.before going.bytes (take c.in-Ok.count c.read.new.room))
-          (c.in_ok-take.ensures.goes_on accepted options (start.before ++ going.bytes) going.is);
+      at = record {
+        is = subst (λ (all : List ℕ). IsRunOf c.take.new.self accepted options all) (append_assoc start.before going.bytes (take c.in-Ok.count c.read.new.room))
+            (c.in_ok-take.ensures.goes_on accepted options (start.before ++ going.bytes) going.at.is);
+        placed = subst (λ (all : List ℕ). IsPlaced c.take.new.self all) (append_assoc start.before going.bytes (take c.in-Ok.count c.read.new.room))
+            (c.in_ok-take.ensures.placed (start.before ++ going.bytes) going.at.placed);
+      };
       serving = serving-more accepted.core options start _ _ _ _ old reports going.bytes going.moments _ _ c.read.new.room c.args.err.now
           (when-done c.flush.result _ c.if-is_err.ensures.value c.flush.ensures.handed_on) c.read.ensures.cause.kept c.read.ensures.writes flushed
           c.in-Ok.count _ c.take.new.err c.in-Ok.ensures.read
-          (c.in_ok-take.ensures.adds accepted options (start.before ++ going.bytes) going.is)
-          (c.in_ok-take.ensures.reports accepted options (start.before ++ going.bytes) going.is)
-          (c.in_ok-take.ensures.stops accepted options (start.before ++ going.bytes) going.is);
+          (c.in_ok-take.ensures.adds accepted options (start.before ++ going.bytes) going.at.is)
+          (c.in_ok-take.ensures.reports accepted options (start.before ++ going.bytes) going.at.is)
+          (c.in_ok-take.ensures.stops accepted options (start.before ++ going.bytes) going.at.is);
     }

@@ -1,0 +1,39 @@
+use Rattle.std.proofs.Common.{sym}
+use Rattle.std.proofs.lemmas.Result.{err_from_is_err_and}
+use Rattle.tilt_live_app.proofs.Living.{accepted-query, load-unbegun, state-unbegun}
+use Rattle.tilt_live_app.specs.Arguments.{command_value}
+use Rattle.tilt_report.specs.Report.{report_of}
+use Rattle.tilt_types.proofs.CheckedCore.{checked-core}
+use Rattle.tilt_live_app.proofs.job.load_job.Goals as goal
+
+pub returns-in_err-loaded-clause-fault : goal.returns-in_err-loaded-clause-fault
+returns-in_err-loaded-clause-fault g c =
+    let p = err_from_is_err_and c.from_residual.result c.from_residual.ensures.1 in
+    rw (p.1, p.2) (load-unbegun g.S.Shelf.tells g.S.Shelf.files g.S.Shelf.read_faults g.S.Shelf.save_faults g.S.Shelf.takes
+    (command_value c.args.command.now) c.args.shelf.now c.load_query.new.shelf (report_of c.in_err-loaded.field-0.0) c.in_err-loaded.ensures.fault)
+
+pub returns-in_err-from-clause-fault : goal.returns-in_err-from-clause-fault
+returns-in_err-from-clause-fault g c =
+    let p = err_from_is_err_and c.from_residual-in_err-from.result c.from_residual-in_err-from.ensures.1 in
+    let loaded = c.in_ok-loaded.ensures in
+    let fault = c.in_err-from.ensures.fault in
+    rw (p.1, p.2) (state-unbegun g.S.Shelf.tells g.S.Shelf.files g.S.Shelf.read_faults g.S.Shelf.save_faults g.S.Shelf.takes
+    (command_value c.args.command.now) c.args.shelf.now c.load_query.new.shelf c.load_from.new.shelf fault.0 c.in_ok-loaded.loaded.query c.in_ok-loaded.loaded.accepted.core
+    loaded.rest fault.1
+    (record { taken = loaded.taken; has = loaded.query }) (report_of c.in_err-from.field-0.0) fault.2)
+
+pub returns-clause-taken : goal.returns-clause-taken
+returns-clause-taken g c = record { taken = c.in_ok-loaded.ensures.taken; has = c.in_ok-loaded.ensures.query }
+
+pub returns-clause-goes_on : goal.returns-clause-goes_on
+returns-clause-goes_on g c = rw c.in_ok-loaded.ensures.rest.same_files at c.in_ok-from.ensures.goes_on
+
+pub returns-clause-accepted : goal.returns-clause-accepted
+returns-clause-accepted g c =
+    let loaded = c.in_ok-loaded.loaded in (
+      accepted-query loaded.query loaded.accepted c.in_ok-loaded.ensures.valid c.in_ok-loaded.ensures.accepted c.core-known.ensures.kept,
+      sym (checked-core loaded.query loaded.accepted.core c.in_ok-loaded.ensures.accepted),
+    )
+
+pub returns-clause-fit : goal.returns-clause-fit
+returns-clause-fit g c = rw (checked-core c.in_ok-loaded.loaded.query c.in_ok-loaded.loaded.accepted.core c.in_ok-loaded.ensures.accepted) at c.in_ok-from.ensures.fit

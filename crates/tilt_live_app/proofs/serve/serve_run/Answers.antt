@@ -1,0 +1,25 @@
+use Rattle.std.proofs.Common.{◌∙◌, ap, Err, refl}
+use Rattle.std.proofs.lemmas.Result.{err_from_is_err_and}
+use Rattle.tilt_live_app.proofs.Feeding.{served-halted}
+use Rattle.tilt_live_app.proofs.Flushing.{flushed-on, served-flushed}
+use Rattle.tilt_live_app.specs.Serving.{IsRunAt}
+use Rattle.tilt_live_app.specs.declared.failure.Halt.TheVariants as halt
+use Rattle.tilt_live_app.proofs.serve.serve_run.Goals as goal
+
+pub returns-in_err-room-clause-served : goal.returns-in_err-room-clause-served
+returns-in_err-room-clause-served g c = λ accepted options start old reports going.
+    let p = err_from_is_err_and c.from_residual.result c.from_residual.ensures.1 in
+    rw (p.1 ∙ ap Err p.2) (record {
+      served = served-halted accepted.core options start _ _ _ _ old reports going.bytes going.moments _ c.args.err.now halt.OutOfMemory _ refl (λ e. cc e) (λ e. absurd (cc e))
+          (λ e. absurd (cc e)) going.serving;
+      is = tt;
+    })
+
+pub returns-clause-served : goal.returns-clause-served
+returns-clause-served g c = λ accepted options start old reports going.
+    rw c.end_with.ensures (served-flushed accepted.core options start _ _ _ _ _ _ _ _ _ c.flush-flushed.ensures.keeps c.flush-flushed.ensures.cause.kept
+    c.flush-flushed.ensures.reads (IsRunAt c.serve_all-end.new.run accepted options) c.serve_all-end.result c.flush-flushed.result c.flush-flushed.ensures.cause.rose
+    (c.serve_all-end.ensures.served accepted options start old reports going))
+
+pub returns-clause-handed_on : goal.returns-clause-handed_on
+returns-clause-handed_on g c = rw c.end_with.ensures (flushed-on c.serve_all-end.result c.flush-flushed.result _ c.flush-flushed.ensures.handed_on)
