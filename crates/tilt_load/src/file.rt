@@ -13,11 +13,7 @@ use tilt_report::{Fault, Refusal};
 
 /// The bytes of the file of that name. `Refused` comes if it has more bytes than a file may have, `ReadFault` if a read failed, and
 /// `OutOfMemory` only if there was no memory.
-pub fn load<'a, S: Shelf>(
-    alloc: Global,
-    shelf: &mut S,
-    name: &'a str,
-) -> Result<Vec<u8>, Fault<'a>>
+pub fn load<'a, S: Shelf>(alloc: Global, shelf: &mut S, name: &'a str) -> Result<Vec<u8>, Fault<'a>>
     requires { S.lends name.now }
     ensures whole { S.tells → IfOk result (λ bytes. bytes.items ≡ S.files shelf.old name.now) }
     ensures short { IfOk result (λ bytes. length bytes.items ≤ FILE) }
