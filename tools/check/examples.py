@@ -50,7 +50,7 @@ from shared.tally import Tally
 EXAMPLES = ["sensors", "trading", "clinical", "fleet"]
 # These pages have commands; if one has none any more, that is a failure.
 WITH_COMMANDS = ["README.md"] + [f"docs/{name}.md" for name in ("TUTORIAL", "LANGUAGE", "COMMANDS", "ERRORS", "DATA", "COOKBOOK")]
-WITH_COMMANDS += [f"docs/{name}.md" for name in ("OPERATORS", "LIVE", "RUNNING_SESSIONS", "SCALE", "PYTHON")]
+WITH_COMMANDS += [f"docs/{name}.md" for name in ("OPERATORS", "LIVE", "PARTS", "RUNNING_SESSIONS", "SCALE", "PYTHON")]
 WITH_COMMANDS += [f"examples/{name}/README.md" for name in EXAMPLES]
 # What a command needs besides: a module of the system's Python, or a program.
 MODULES = {"tilt-data plot": "matplotlib", "python3 bakery.py": "pandas", "python3 known.py": "pandas"}

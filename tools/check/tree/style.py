@@ -15,7 +15,7 @@ from shared.tally import Tally
 PAGES = ["README.md", "CONTRIBUTING.md", "CHANGELOG.md", "docs/README.md"]
 PAGES += [f"docs/{name}.md" for name in ("COMMANDS", "COMPARED", "COOKBOOK", "DATA", "ERRORS", "GLOSSARY", "INSTALL")]
 PAGES += [f"docs/{name}.md" for name in ("LANGUAGE", "LIVE", "OPERATORS", "OPTIONS", "PERFORMANCE", "PYTHON", "RELEASES")]
-PAGES += [f"docs/{name}.md" for name in ("RELIABILITY", "RUNNING_SESSIONS", "SCALE", "SEMANTICS", "TUTORIAL")]
+PAGES += [f"docs/{name}.md" for name in ("PARTS", "RELIABILITY", "RUNNING_SESSIONS", "SCALE", "SEMANTICS", "TUTORIAL")]
 PAGES += [f"docs/internals/{name}.md" for name in ("ARCHITECTURE", "DECISIONS", "EMBEDDING", "MEANING", "MEASUREMENTS", "PROVED")]
 PAGES += [f"examples/{name}/README.md" for name in ("clinical", "fleet", "sensors", "trading")]
 ALL_PAGES = ["*.md", "docs/*.md", "docs/internals/*.md", "examples/*/README.md"]
