@@ -10,6 +10,9 @@ The feed comes through a pipe whose packets are lines, so each line is a read of
 - If the query can't be read, the status is 3, and nothing is written.
 - If the program is killed, the output is a prefix, with all that the lines before the last read made final.
 - If there is no memory from a call on, the status is 5, or it was enough.
+- If the state can't be read, the status is 3, and nothing is written. If it can't be saved, the status is 6, and all output was written.
+- The state is the new one after status 0, one of both after status 6 or a kill, and the old one otherwise. Only a kill leaves a file
+  beside it.
 
 Without strace, or if tracing isn't allowed, all cases are left out. The last line is 'N passed, M failed', and the status is 1 if one
 failed."""
@@ -29,7 +32,7 @@ from typing import Callable, Iterator, Sequence
 
 sys.path.insert(0, os.path.dirname(os.path.dirname(os.path.dirname(os.path.realpath(__file__)))))
 
-from check.faults.calls import AGAIN, BEGINNING, MEMORY, OPENS, READS, WRITES, Numbered, numbered_calls
+from check.faults.calls import AGAIN, BEGINNING, MEMORY, OPENS, READS, RENAMES, SYNCS, WRITES, Numbered, numbered_calls
 from check.faults.run import missing, no_tracing
 from check.faults.running import SECONDS
 from shared.packages import install
@@ -49,22 +52,38 @@ LINES = [
     ",,20,\n",
     ",,,\n",
 ]
-OPTIONS: dict[str, list[str]] = {
-    "plain output": [],
-    "with what has begun": ["--begun"],
-    "out of order": ["--lateness", "3", "--idle", "30"],
-}
+STATE = "s"
+
+
+@dataclasses.dataclass(frozen=True)
+class Case:
+    """Options, and how many lines an earlier call took, whose state is there."""
+
+    options: list[str]
+    before: int | None = None
+
+
+CASES = [
+    Case([]),
+    Case(["--begun"]),
+    Case(["--lateness", "3", "--idle", "30"]),
+    Case(["--lateness", "3", "--save", STATE]),
+    Case(["--begun", "--resume", STATE, "--save", STATE], 5),
+]
 ERRORS = ["EIO", "ENOSPC", "EINTR", "EMFILE"]
 
 
 @dataclasses.dataclass(frozen=True)
 class End:
-    """What a run leaves. The status is None if it took too long."""
+    """What a run leaves. The status is None if it took too long. `saved` is what is under the name of the state, and `beside` are the
+    names of other files that are new."""
 
     status: int | None
     out: str
     err: str
     trace: str
+    saved: str | None = None
+    beside: tuple[str, ...] = ()
 
 
 @dataclasses.dataclass(frozen=True)
@@ -82,20 +101,25 @@ class Call:
 
 @dataclasses.dataclass(frozen=True)
 class Clean:
-    """The runs of a case without faults: what is written for the first lines, as many as the place, and the calls of the last run."""
+    """The runs of a case without faults: what is written for the first lines, as many as the place, and the calls of the last run. The
+    state before it, and after it."""
 
     words: list[str]
+    lines: list[str]
+    old: str | None
+    new: str | None
     out: list[str]
     err: list[str]
     calls: list[Call]
     numbered: Numbered
 
 
-def run(words: Sequence[str], lines: Sequence[str], options: Sequence[str]) -> End:
+def run(words: Sequence[str], lines: Sequence[str], options: Sequence[str], state: str | None = None) -> End:
     """Runs the program under strace in a folder of its own. Each line is a packet of its pipe."""
     with tempfile.TemporaryDirectory(prefix="faults.") as folder:
-        with open(os.path.join(folder, "q"), "w", encoding="ascii") as file:
-            file.write(QUERY)
+        put_file(folder, "q", QUERY)
+        if state is not None:
+            put_file(folder, STATE, state)
         source, sink = os.pipe2(os.O_DIRECT)
         fcntl.fcntl(sink, fcntl.F_SETPIPE_SZ, 4096 * (len(lines) + 1))
         for line in lines:
@@ -110,13 +134,31 @@ def run(words: Sequence[str], lines: Sequence[str], options: Sequence[str]) -> E
             except subprocess.TimeoutExpired:
                 process.kill()
                 return End(None, "", "", "")
-        with open(trace, encoding="utf-8", errors="replace") as file:
-            return End(process.returncode, out, err, file.read())
+        beside = tuple(sorted(set(os.listdir(folder)) - {"q", STATE, "trace"}))
+        return End(process.returncode, out, err, text_in(folder, "trace") or "", text_in(folder, STATE), beside)
+
+
+def put_file(folder: str, name: str, text: str) -> None:
+    with open(os.path.join(folder, name), "w", encoding="ascii") as file:
+        file.write(text)
+
+
+def text_in(folder: str, name: str) -> str | None:
+    """What a file has, if it is there."""
+    try:
+        with open(os.path.join(folder, name), encoding="utf-8", errors="replace") as file:
+            return file.read()
+    except FileNotFoundError:
+        return None
 
 
 def part_of(name: str, rest: str) -> str:
-    if name in OPENS and '"q"' in rest or name in READS and "/q>" in rest.split(",")[0]:
-        return "query"
+    """What a call has to do with. The state is read under its own name, and written beside it."""
+    for file, part in (("q", "query"), (STATE, "state")):
+        if name in OPENS and f'"{file}"' in rest and "O_RDONLY" in rest or name in READS and f"/{file}>" in rest.split(",")[0]:
+            return part
+    if name in RENAMES + SYNCS or name in OPENS and "O_CREAT" in rest or name in WRITES and not rest.startswith(("1<", "2<")):
+        return "save"
     parts = {"0<": "feed", "1<": "output", "2<": "reports"}
     return next((part for start, part in parts.items() if name in READS + WRITES and rest.startswith(start)), "")
 
@@ -131,14 +173,19 @@ def own_calls(numbered: Numbered) -> Iterator[Call]:
         lines += part == "feed" and not rest.endswith(" = 0")
 
 
-def clean_of(words: list[str], tally: Tally) -> Clean | None:
-    ends = [run(words, LINES[:count], []) for count in range(len(LINES) + 1)]
-    wrong = [end for end in ends if end.status != 0]
-    tally.expect(not wrong, f"{words} without a fault: {wrong[:1]}")
+def clean_of(program: str, case: Case, tally: Tally) -> Clean | None:
+    words = [program, "q", *case.options]
+    before = case.before or 0
+    old = None if case.before is None else run([program, "q", "--save", STATE], LINES[:before], []).saved
+    lines = LINES[before:]
+    ends = [run(words, lines[:count], [], old) for count in range(len(lines) + 1)]
+    wrong = [end for end in ends if end.status != 0 or end.beside or (end.saved is None) != ("--save" not in words)]
+    tally.expect(not wrong, f"{words} without a fault: {[dataclasses.replace(end, trace='') for end in wrong[:1]]}")
     if wrong:
         return None
     numbered = numbered_calls(ends[-1].trace)
-    return Clean(words, [end.out for end in ends], [end.err for end in ends], list(own_calls(numbered)), numbered)
+    calls = list(own_calls(numbered))
+    return Clean(words, lines, old, ends[-1].saved, [end.out for end in ends], [end.err for end in ends], calls, numbered)
 
 
 # What has to be left.
@@ -151,8 +198,10 @@ def expected(clean: Clean, call: Call, error: str) -> str:
         return shown(whole)
     if call.part == "feed":
         return shown((3, clean.out[call.lines], clean.err[call.lines] + "tilt: 4 read fault: -\n"))
-    if call.part == "query":
-        return shown((3, "", "tilt: 4 read fault: q\n"))
+    if call.part in ("query", "state"):
+        return shown((3, "", f"tilt: 4 read fault: {'q' if call.part == 'query' else STATE}\n"))
+    if call.part == "save":
+        return shown((6, clean.out[-1], clean.err[-1] + f"tilt: 6 save fault: {STATE}\n"))
     return shown(whole)
 
 
@@ -161,10 +210,22 @@ def shown(end: tuple[int | None, str, str]) -> str:
     return f"status {status}, output {out!r}, errors {err!r}"
 
 
+def wrong_files(clean: Clean, end: End) -> str | None:
+    """What is wrong with the files that a run left, or None. After status 0 the new state is there, after another one than 6 the old one,
+    and else one of both. Only a kill leaves another file."""
+    states = [clean.new] if end.status == 0 else [clean.old, clean.new] if end.status == 6 else [clean.old]
+    if end.saved not in states:
+        return f"status {end.status} leaves the state {end.saved!r}"
+    return f"it leaves {end.beside}" if end.beside else None
+
+
 def wrong_end(clean: Clean, call: Call, error: str, end: End) -> str | None:
     """What is wrong with a run in which a call failed, or None."""
     if "(INJECTED)" not in end.trace:
         return "the fault didn't come"
+    wrong = wrong_files(clean, end)
+    if wrong is not None:
+        return wrong
     if call.part == "output" and error != "EINTR":
         return None if is_write_fault(clean, call, end) else f"a write fault: {shown((end.status, end.out, end.err))}"
     if call.part == "reports" and error != "EINTR":
@@ -174,7 +235,7 @@ def wrong_end(clean: Clean, call: Call, error: str, end: End) -> str | None:
         return None if came[:2] == (0, clean.out[-1]) and len(lost) <= 1 else f"came {shown(came)}"
     ended, wanted = shown((end.status, end.out, end.err)), expected(clean, call, error)
     # What has to do with no file may fail as it likes, if it is reported.
-    if ended == wanted or not call.part and end.status in (3, 4, 5) and clean.out[-1].startswith(end.out):
+    if ended == wanted or not call.part and end.status in (3, 4, 5, 6) and clean.out[-1].startswith(end.out):
         return None
     return f"wanted {wanted}, came {ended}"
 
@@ -190,28 +251,31 @@ def is_write_fault(clean: Clean, call: Call, end: End) -> bool:
 
 
 def try_fault(clean: Clean, call: Call, error: str, tally: Tally) -> None:
-    end = run(clean.words, LINES, ["-e", f"inject={call.name}:error={error}:when={call.count}"])
+    end = run(clean.words, clean.lines, ["-e", f"inject={call.name}:error={error}:when={call.count}"], clean.old)
     wrong = wrong_end(clean, call, error, end)
     tally.expect(wrong is None, f"{clean.words[1:]}: {error} at {call}: {wrong}")
 
 
 def try_kill(clean: Clean, call: Call, tally: Tally) -> None:
-    end = run(clean.words, LINES, ["-e", f"inject={call.name}:signal=KILL:when={call.count}"])
+    end = run(clean.words, clean.lines, ["-e", f"inject={call.name}:signal=KILL:when={call.count}"], clean.old)
     before = clean.out[max(call.lines - 1, 0)] if call.lines else ""
     good = end.status in (-signal.SIGKILL, 128 + signal.SIGKILL)
     good = good and clean.out[-1].startswith(end.out) and clean.err[-1].startswith(end.err) and len(end.out) >= len(before)
+    good = good and end.saved in (clean.old, clean.new) and len(end.beside) <= 1
     tally.expect(good, f"{clean.words[1:]}: killed at {call}: {shown((end.status, end.out, end.err))}")
 
 
 def try_no_memory(clean: Clean, counts: dict[str, int], tally: Tally) -> None:
     """From the call on no memory is given."""
     refusals = {name: f"{'retval=0' if name == 'brk' else 'error=ENOMEM'}:when={count}+" for name, count in counts.items()}
-    end = run(clean.words, LINES, [word for name, refusal in refusals.items() for word in ("-e", f"inject={name}:{refusal}")])
+    options = [word for name, refusal in refusals.items() for word in ("-e", f"inject={name}:{refusal}")]
+    end = run(clean.words, clean.lines, options, clean.old)
     enough = (end.status, end.out, end.err) == (0, clean.out[-1], clean.err[-1])
     # Before the program has begun it can't report anything.
     early = end.status in (5, 7) and (end.out, end.err) == ("", "")
     lacking = end.status == 5 and clean.out[-1].startswith(end.out) and end.err.endswith("tilt: 7 out of memory\n")
-    tally.expect(enough or early or lacking, f"{clean.words[1:]}: no memory from {counts} on: {shown((end.status, end.out, end.err))}")
+    good = (enough or early or lacking) and wrong_files(clean, end) is None
+    tally.expect(good, f"{clean.words[1:]}: no memory from {counts} on: {shown((end.status, end.out, end.err))}, {wrong_files(clean, end)}")
 
 
 def demands_of(clean: Clean) -> Iterator[dict[str, int]]:
@@ -254,8 +318,8 @@ def main() -> int:
         print(f"left out: all faults of tilt-live: {why_not}")
         return tally.end()
     trials: list[Callable[[], None]] = []
-    for options in OPTIONS.values():
-        clean = clean_of([program, "q", *options], tally)
+    for case in CASES:
+        clean = clean_of(program, case, tally)
         if clean is not None:
             trials += trials_of(clean, tally)
     with concurrent.futures.ThreadPoolExecutor(given.jobs) as pool:
