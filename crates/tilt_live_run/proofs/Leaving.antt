@@ -1,5 +1,5 @@
 -- What is left of the inputs of a feed.
-use Rattle.std.proofs.Common.{◌≡◌, ◌≤◌, ◌<◌, ◌+◌, ◌^◌, ℕ, zero, suc, ℤ, ◌≤ℤ◌, ◌<ℤ◌, neg_ℤ, Bool, true, false, int_le, if◌then◌else◌, List, [], ◌∷◌, ◌++◌, length, map, Option, Some, None, slice_get, Result, Ok, Err, IfOk, OnOk, refl, sym, ap, ◌∙◌, subst, inl, inr, arith}
+use Rattle.std.proofs.Common.{◌≡◌, ◌≤◌, ◌<◌, ◌^◌, ℕ, zero, suc, ℤ, ◌≤ℤ◌, neg_ℤ, Bool, true, false, int_le, List, [], ◌∷◌, ◌++◌, length, map, Option, Some, slice_get, Result, Ok, Err, IfOk, OnOk, refl, sym, ap, ◌∙◌, subst, inl, inr, arith}
 use Rattle.std.proofs.lemmas.Bool.{cases_Bool}
 use Rattle.std.proofs.lemmas.Int.{ints}
 use Rattle.std.proofs.lemmas.List.{length-map}
@@ -39,7 +39,7 @@ use Rattle.tilt_syntax.specs.Tree.{StatementTree}
 use Rattle.tilt_watermarks.proofs.Stepping.{all-steps, keeps-first, kept-of}
 use Rattle.tilt_watermarks.specs.Held.{Waiting}
 use Rattle.tilt_watermarks.specs.Laws.{IsFit, IsKeptOf, edges_of, watermarked}
-use Rattle.tilt_watermarks.specs.Steps.{Kept, nothing_kept}
+use Rattle.tilt_watermarks.specs.Steps.{nothing_kept}
 
 -- rows by their number, and none
 pub rows-at : (known : List InputFeed) (number : ℕ) (input : InputFeed) → slice_get known number ≡ Some input → rows_at known number ≡ input.rows

@@ -3,6 +3,6 @@
 pub enum Keep {
     /// Only what it reads itself.
     Nothing,
-    /// What its state needs besides.
+    /// Also what its state needs.
     State,
 }

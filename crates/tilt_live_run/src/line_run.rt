@@ -1,5 +1,6 @@
 // The run of a query, line by line.
-ghost use Rattle.std.specs.Prelude.{◌≡◌, Option, map, ◌++◌, ℕ, ℤ, [], None, true, false, length, drop, if◌then◌else◌, IfOk, IfErr, OnOk, MatchResult};
+ghost use Rattle.std.specs.Prelude.{◌≡◌, Option, map, ◌++◌, ℕ, ℤ, [], None};
+ghost use Rattle.std.specs.Prelude.{true, false, length, drop, if◌then◌else◌, IfOk, IfErr, OnOk, MatchResult};
 ghost use Rattle.tilt_compiler.specs.Accepted.{AcceptedParts};
 ghost use Rattle.tilt_feed.specs.Feed.{Feed, empty_feed};
 ghost use Rattle.tilt_feed.specs.Printed.{begun, printed};
@@ -223,7 +224,8 @@ impl LineRun {
         }
     }
 
-    // Writes what can be printed and wasn't, and then what has begun, if that is asked for. Then it lets go of rows that its state won't need.
+    // Writes what can be printed and wasn't, and then what has begun, if that is asked for. Then it lets go of rows that its state won't
+    // need.
     pub(crate) fn show<P: Port>(&mut self, port: &mut P) -> Result<(), Stop>
         requires live { IsLive self.old.live }
         ensures adds { (accepted : AcceptedParts) (feed : Feed) (given : ℕ) → IsLiveOf self.old.live accepted feed given

@@ -248,9 +248,9 @@ impl LiveRun {
         self.run.report_next(BadLine::NoEnd, err)
     }
 
-    /// What it hands on to the next run, if it keeps what that needs: its state after the lines that it has taken, when so many bytes of
-    /// output were written. The bytes of a line whose LF hasn't come yet aren't part of it. `OutOfMemory` comes if memory runs out, or ran
-    /// out in an earlier call of the run.
+    /// What it hands on to the next run: its state after the lines that it has taken. `written` is how many bytes of output were written
+    /// by then. The bytes of a line whose LF hasn't come yet aren't part of it. `OutOfMemory` comes if memory runs out, or ran out in an
+    /// earlier call of the run.
     pub fn state(
         &mut self,
         alloc: Global,

@@ -52,7 +52,8 @@ impl StateRows {
 
     // Takes an event. One that isn't allowed changes nothing.
     pub(crate) fn take(&mut self, event: Event) -> Result<(), OutOfMemory>
-        ensures rows { (first : ℤ) (feed : Feed) → KeepsRows self.old first feed → OnOk result (KeepsRows self.new first (after event feed)) }
+        ensures rows { (first : ℤ) (feed : Feed) → KeepsRows self.old first feed
+            → OnOk result (KeepsRows self.new first (after event feed)) }
         ensures keeps { has_rows self.new ≡ has_rows self.old }
     {
         match &mut self.fed {
@@ -63,7 +64,8 @@ impl StateRows {
 
     // Lets go of closed rows that end below a tick, if there are many.
     pub(crate) fn forget(&mut self, first: i64) -> Result<(), OutOfMemory>
-        ensures rows { (lower : ℤ) (feed : Feed) → lower ≤ℤ first → KeepsRows self.old lower feed → OnOk result (KeepsRows self.new first feed) }
+        ensures rows { (lower : ℤ) (feed : Feed) → lower ≤ℤ first → KeepsRows self.old lower feed
+            → OnOk result (KeepsRows self.new first feed) }
         ensures keeps { has_rows self.new ≡ has_rows self.old }
     {
         match &mut self.fed {

@@ -1,6 +1,5 @@
 use Rattle.std.proofs.Common.{◌≡◌, ◌∙◌, ℤ, List, [], IfOk, ap, of_z, rules, subst, sym, to_z, w64, false, true}
-use Rattle.tilt_feed.specs.Feed.{InputFeed}
-use Rattle.tilt_input_state.specs.Resume.{first_read, left_input, resume_tick}
+use Rattle.tilt_input_state.specs.Resume.{first_read}
 use Rattle.tilt_live_run.proofs.Leaving.{joined-ended, joined-open}
 use Rattle.tilt_live_run.proofs.Upto.{tick-shown}
 use Rattle.tilt_live_run.specs.Joined.{joined}

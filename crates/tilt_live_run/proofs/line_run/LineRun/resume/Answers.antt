@@ -1,11 +1,9 @@
-use Rattle.std.proofs.Common.{◌≡◌, ◌∙◌, ℤ, List, ap, map, of_z, refl, rules, subst, sym, to_z, w64}
+use Rattle.std.proofs.Common.{◌≡◌, ◌∙◌, ℤ, ap, map, of_z, refl, rules, subst, sym, to_z, w64}
 use Rattle.std.specs.List.{AllByRecursion}
-use Rattle.tilt_feed.specs.Feed.{InputFeed}
 use Rattle.tilt_input_state.specs.Resume.{first_read}
 use Rattle.tilt_live_run.proofs.Leaving.{inputs-fit, left-same}
 use Rattle.tilt_live_run.specs.KeptRows.{KeepsRows}
-use Rattle.tilt_live_state.specs.State.{InputParts, LiveStateParts, feed_of, waiting_of}
-use Rattle.tilt_watermarks.specs.Held.{Waiting}
+use Rattle.tilt_live_state.specs.State.{LiveStateParts, feed_of, waiting_of}
 use Rattle.tilt_watermarks.specs.Laws.{IsFit}
 use Rattle.tilt_watermarks.specs.Steps.{Kept}
 use Rattle.tilt_watermarks.specs.declared.options.Options.{Options}
