@@ -9,4 +9,8 @@ mod feeds;
 #[cfg(test)]
 mod lines;
 #[cfg(test)]
+mod resume;
+#[cfg(test)]
 mod watermarks;
+#[cfg(test)]
+mod worked;
