@@ -215,7 +215,7 @@ def test_worked_feeds_find_a_program_that_prints_nothing(tmp_path, capsys):
     worked = worked_feeds.Worked("input x; emit x over (0, 4];", {"x": [(0, 2, 5)]}, "start,end,value\n0,2,5\n", None)
     tally = Tally()
     worked_feeds.check_worked(worked, False, str(program), 10, tally)
-    assert tally.failed == 2
+    assert tally.failed == 3
     assert "expected: ['0,2,5']\ncame: []" in capsys.readouterr().out
     worked_feeds.check_worked(dataclasses.replace(worked, out="start,end,value\n0,1,5\n"), False, str(program), 10, tally)
-    assert tally.failed == 5
+    assert tally.failed == 7

@@ -1,10 +1,15 @@
 #!/usr/bin/env python3
-"""Runs random feeds of random queries on the program below, with fusion and without, from a fixed seed, and compares what it prints after
-each line with what tools/check/feeds.py works out: `tools/check/random_feeds.py [--program PATH | --alone] [QUERIES]`.
+"""Runs random feeds of random queries on the program below, with fusion and without, and compares what it prints after each line with what
+tools/check/feeds.py works out: `tools/check/random_feeds.py [--program PATH | --alone] [--seed N] [--resumed N] [QUERIES]`.
 
-`PROGRAM QUERYFILE [--plain]` reads lines of feeds, as `tilt_feed_line` has them without keys; an empty line begins the next feed. After
-each other line it prints `start,end,value` for each snapshot that can be printed now and couldn't before, and `start,,value` if one has
-begun; or `!` and the fault, if the line isn't allowed; and then the line `.`. A null value is empty.
+`PROGRAM QUERYFILE [--plain | --resumed N]` reads lines of feeds, as `tilt_feed_line` has them without keys; an empty line begins the next
+feed. After each other line it prints `start,end,value` for each snapshot that can be printed now and couldn't before, and `start,,value` if
+one has begun; or `!` and the fault, if the line isn't allowed; and then the line `.`. A null value is empty.
+
+With `--resumed N` the program drops its live engine after each N lines, and another one goes on from the text of a state. The feeds of one
+query in three are run so too, with N = 1, 2 and 3 in turn; `--resumed K` makes it one query in K. After a line that breaks a rule the
+engine stays. If that line is for all inputs, the events before the fault were taken, and what they have made final isn't printed yet. An
+engine may be dropped only when all of that is.
 
 Of each feed it is checked too that the definitions keep their laws: what is printed goes on from what was printed before, and from what had
 begun, and is the output on the rows once the feed is finished. With `--alone` nothing else is checked, and no program is run.
@@ -36,6 +41,9 @@ SEED = 21
 QUERIES = 400
 FEEDS_OF_EACH_QUERY = 10
 PROGRAM = os.path.join(TOP, "crates", "tilt_run_feeds", "out", "tilt_run_feeds")
+# The feeds of one query in so many are run with engines that are dropped after some lines: after these numbers of lines in turn.
+RESUMED = 3
+LINES_OF_AN_ENGINE = (1, 2, 3)
 # How long a run over all feeds of a query may take.
 SECONDS = 60
 
@@ -339,7 +347,16 @@ def check_run(words: Sequence[str], text: str, cases: Sequence[Case], tally: Tal
     tally.expect(run.end == "status 0" and at == len(run.answers), f"{' '.join(words)}\n{text}{run.end}; more: {run.answers[at:]}")
 
 
-def check_query(draw: random.Random, program: str | None, tally: Tally) -> None:
+def ways_of(number: int, resumed: int) -> list[list[str]]:
+    """The options of each run over the feeds of the query with a number, if one query in so many has engines that are dropped."""
+    ways: list[list[str]] = [[], ["--plain"]]
+    turn, rest = divmod(number, resumed)
+    if rest == 0:
+        ways.append(["--resumed", str(LINES_OF_AN_ENGINE[turn % len(LINES_OF_AN_ENGINE)])])
+    return ways
+
+
+def check_query(draw: random.Random, program: str | None, ways: Sequence[Sequence[str]], tally: Tally) -> None:
     # At times all that is asked and told lies at an end of time.
     base = draw.choice([0] * 12 + [T - 40, T - 40, -T + 14])
     text = random_query(draw, base)
@@ -348,8 +365,8 @@ def check_query(draw: random.Random, program: str | None, tally: Tally) -> None:
     for case in cases:
         tally.note("\n".join([text, *map(line_text, case.lines)]), case.broken)
     if program is not None:
-        check_run([program, "q"], text, cases, tally)
-        check_run([program, "q", "--plain"], text, cases, tally)
+        for options in ways:
+            check_run([program, "q", *options], text, cases, tally)
 
 
 def main(arguments: Sequence[str]) -> int:
@@ -357,15 +374,17 @@ def main(arguments: Sequence[str]) -> int:
     words.add_argument("queries", nargs="?", type=int, default=QUERIES, help="how many queries")
     words.add_argument("--program", default=PROGRAM, help="the program that is run")
     words.add_argument("--alone", action="store_true", help="run no program")
+    words.add_argument("--seed", type=int, default=SEED, help="from which the queries and feeds are drawn")
+    words.add_argument("--resumed", type=int, default=RESUMED, help="one query in so many has engines that are dropped")
     chosen = words.parse_args(arguments)
     program = None if chosen.alone else os.path.abspath(chosen.program)
-    draw = random.Random(SEED)
+    draw = random.Random(chosen.seed)
     tally = Tally()
     if program is not None and not os.access(program, os.X_OK):
         tally.expect(False, f"{program} isn't built")
         return tally.end()
-    for _ in range(chosen.queries):
-        check_query(draw, program, tally)
+    for number in range(chosen.queries):
+        check_query(draw, program, ways_of(number, chosen.resumed), tally)
     return tally.end()
 
 

@@ -8,6 +8,8 @@ that keeps the order of each input if it has at most 8 rows, and otherwise in N 
 - each row as one line;
 - each row as a value from its start on, which the next line of its input ends.
 
+The first 100 orders are also fed with an engine that is dropped after each line, and another one in its place.
+
 After each line the program has to print what tools/check/feeds.py works out of the rows so far. Once the feed is finished, what it printed
 has to be what the call prints. A session that ends by a cut is fed too: its rows that start below the cut, and then that each input is
 known up to the cut, if none of its rows reaches beyond. What the session prints has to begin what is printed then.
@@ -36,6 +38,8 @@ from shared.tally import Tally
 SEED = 56
 # Up to this number of rows all orders are fed.
 FEW_ROWS = 8
+# So many orders of a run, at most, are fed to engines that are dropped after each line.
+MOST_RESUMED = 100
 # Runs with more rows are left out: they are about time and memory.
 MOST_ROWS = 60
 HEADER = "start,end,value\n"
@@ -202,8 +206,9 @@ def check_worked(worked: Worked, by_values: bool, program: str, most: int, tally
         printed = text_of(case.wanted)
         good = printed == worked.out if worked.cut is None else printed.startswith(worked.out)
         tally.expect(good, f"{worked.text}\nthe call prints {worked.out!r}, and its feed {printed!r}")
-    for words in ([program, "q"], [program, "q", "--plain"]):
-        check_run(words, worked.text, cases, tally)
+    check_run([program, "q"], worked.text, cases, tally)
+    check_run([program, "q", "--plain"], worked.text, cases, tally)
+    check_run([program, "q", "--resumed", "1"], worked.text, cases[:MOST_RESUMED], tally)
 
 
 def main(arguments: Sequence[str]) -> int:

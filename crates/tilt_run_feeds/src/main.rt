@@ -1,10 +1,15 @@
 //! Runs feeds of a query, for the checks: what is final after each line, and what has begun.
 //!
-//! Its arguments are the file of the query, and `--plain` if the code isn't to be fused. Standard input has lines of feeds without keys; an
-//! empty line starts another feed. After each other line it prints each new snapshot as `start,end,value`, then what has begun as
-//! `start,,value`, and then `.`. If the event isn't allowed, it prints `!` and the rule that is broken in place of the snapshots.
+//! Its arguments are the file of the query, and `--plain` if the code isn't to be fused, or `--resumed N` if the engine is to be dropped
+//! after each N lines. Standard input has lines of feeds without keys; an empty line starts another feed. After each other line it prints
+//! each new snapshot as `start,end,value`, then what has begun as `start,,value`, and then `.`. If the event isn't allowed, it prints `!`
+//! and the rule that is broken in place of the snapshots.
+//!
+//! When an engine is dropped, the state of its feed is written as text, and read back. Another engine goes on from that. Its code is fused
+//! if the code of the one before wasn't. What is printed has to be the same.
 #![tactic(auto)]
 
+mod resuming;
 mod runner;
 
 use runner::run;
