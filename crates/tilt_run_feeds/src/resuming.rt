@@ -5,12 +5,12 @@ ghost use Rattle.tilt_live.specs.Lives.{IsLive};
 use std::alloc::Global;
 use std::test::Fail;
 use tilt_base::Cell;
-use tilt_compiler::accept;
+use tilt_compiler::{Accepted, accept};
 use tilt_engine::FedRows;
 use tilt_feed::Event;
 use tilt_input_state::InputState;
 use tilt_live::Live;
-use tilt_live_state::{Decoded, InputState as KeptInput, LiveState, Progress, decode, encode};
+use tilt_live_state::{InputState as KeptInput, LiveState, Progress, decode, encode};
 use tilt_stream::Rows;
 use tilt_testing::query_of;
 use tilt_watermarks::Options;
@@ -108,12 +108,13 @@ impl Resuming {
         ensures { IsLive live.new }
     {
         let decoded = decode(alloc, state)?;
-        let finished = decoded.state.progress.finished;
+        let progress = decoded.state.progress;
         let inputs = restored(alloc, &decoded.state.inputs)?;
         self.fuse = !self.fuse;
-        *live = resumed(alloc, decoded, &inputs, self.fuse)?;
+        let accepted = accept(alloc, decoded.core, self.fuse)?;
+        *live = resumed(alloc, accepted, progress.from, progress.finished, &inputs)?;
         self.fed = FedRows::of(alloc, &inputs)?;
-        self.finished = finished;
+        self.finished = progress.finished;
         Ok(())
     }
 }
@@ -171,18 +172,22 @@ fn restored(alloc: Global, kept: &[KeptInput]) -> Result<Vec<InputState>, Fail> 
     Ok(inputs)
 }
 
-// The engine that goes on from a state.
-fn resumed(alloc: Global, decoded: Decoded, inputs: &[InputState], fuse: bool) -> Result<Live, Fail>
+// The engine of a query that goes on after a tick.
+fn resumed(
+    alloc: Global,
+    accepted: Accepted,
+    from: i64,
+    finished: bool,
+    inputs: &[InputState],
+) -> Result<Live, Fail>
     ensures { IfOk result (λ live. IsLive live) }
 {
-    let progress = decoded.state.progress;
-    let accepted = accept(alloc, decoded.core, fuse)?;
     let domain = accepted.domain();
     if inputs.len() != accepted.core().inputs().len() {
         return Err("another number of inputs".into());
     }
-    if progress.from < domain.start || domain.end < progress.from {
+    if from < domain.start || domain.end < from {
         return Err("a tick outside of the domain".into());
     }
-    Ok(Live::resume(alloc, accepted, progress.from, progress.finished, inputs)?)
+    Ok(Live::resume(alloc, accepted, from, finished, inputs)?)
 }
