@@ -643,15 +643,30 @@ fn line_goes_on(
     comes_out(rt, fed, step.printed, step.begun)
 }
 
+// Leaves the engine and the watermarks, if this is the place for it.
+fn leave_both_if(
+    rt: &impl Abort,
+    is_place: bool,
+    fed: &mut Fed,
+    watermarks: &mut Watermarks,
+) -> Result<(), Fail>
+    requires { IsLive fed.old.live }
+    ensures { IsLive fed.new.live }
+{
+    if !is_place {
+        return Ok(());
+    }
+    leave(rt, fed)?;
+    *watermarks = resumed_watermarks(fed.alloc, watermarks)?;
+    Ok(())
+}
+
 // Each line, with watermarks and an engine that are left after a number of lines.
 fn run_lines(alloc: Global, rt: &impl Abort, place: usize) -> Result<(), Fail> {
     let mut fed = start(alloc, HELD, true)?;
     let mut watermarks = Watermarks::new(alloc, LATE, 1)?;
     for (number, step) in HELD_STEPS.iter().enumerate() {
-        if number == place {
-            leave(rt, &mut fed)?;
-            watermarks = resumed_watermarks(alloc, &watermarks)?;
-        }
+        leave_both_if(rt, number == place, &mut fed, &mut watermarks)?;
         line_goes_on(rt, &mut fed, &mut watermarks, step)?;
     }
     Ok(())
