@@ -36,11 +36,7 @@ pub(crate) fn run(rt: &HostRuntime) -> Result<(), Fail> {
     let mut out = BufWriter::new(alloc, io::writer(rt))?;
     for line in BufReader::new(alloc, rt.reader())?.lines(alloc) {
         let line = line?;
-        if line.is_empty() {
-            run.start_again()?;
-        } else {
-            run.take_line(line.as_bytes(), &mut out)?;
-        }
+        run.take_line(line.as_bytes(), &mut out)?;
     }
     out.flush()?;
     Ok(())
@@ -105,11 +101,14 @@ impl FeedRun {
         Ok(())
     }
 
-    // Takes a line that isn't empty, and prints what comes out.
+    // Takes a line, and prints what comes out. An empty line starts another feed.
     fn take_line<W: Write>(&mut self, line: &[u8], out: &mut W) -> Result<(), Fail>
         requires { IsLive self.old.live }
         ensures { IsLive self.new.live }
     {
+        if line.is_empty() {
+            return self.start_again();
+        }
         match self.lines.read_line(line, self.core.inputs()) {
             Ok(said) => self.take_said(said, out)?,
             Err(fault) => writeln!(out, "?{fault}")?,
