@@ -1,5 +1,5 @@
 -- The end of a call: what was kept of the run, after the feed was served.
-use Rattle.std.proofs.Common.{◌≡◌, ◌⊎◌, ℕ, List, Option, None, Some, Result, Ok, Err, MatchResult, inl, inr, refl, sym, ap, ◌∙◌}
+use Rattle.std.proofs.Common.{◌≡◌, ◌⊎◌, ℕ, List, Option, None, Some, Result, Ok, Err, MatchResult, inl, inr, refl, sym, ap, ◌∙◌, subst}
 use Rattle.std.specs.Prelude.{⊤, ◌-◌, ◌↔◌, length, IfErr}
 use Rattle.tilt_checkpoint.specs.Valid.{IsAccepted}
 use Rattle.tilt_compiler.specs.Accepted.{AcceptedParts}
@@ -22,6 +22,7 @@ use Rattle.tilt_cli.specs.declared.fault.WordsFault.TheVariants.{OutOfMemory, Us
 use Rattle.tilt_live_run.specs.Left.{state_left}
 use Rattle.tilt_live_run.specs.Reported.{Reported}
 use Rattle.tilt_live_run.specs.declared.live_run.LiveRun.{LiveRun}
+use Rattle.tilt_live_state.specs.Spelling.{spelled}
 use Rattle.tilt_live_state.specs.Valid.{IsState, IsStateOf}
 use Rattle.tilt_outside.specs.Counts.{added_count}
 use Rattle.tilt_outside.specs.Faults.{Rose}
@@ -111,12 +112,13 @@ module _ {K : Type 0} (shelf : ShelfChange) (tells : Type 0) (old new : Transcri
           → IsTextAfter command.options begun.core tells old new begun.query begun.from text bytes
       text-after text bytes of at =
           let is = of accepted command.options bytes at in
-          let is' = rw core_is at is in
+          let left = state_left command.options begun.core begun.query (ended bytes) written in
+          let run_is = subst (λ (core : CoreParts). IsStateOf core (state_left command.options core begun.query (ended bytes) written)) core_is is.1 in
           record {
             written = written;
             counted = counted;
-            is_text = is'.0;
-            valid = record { query = is_accepted; run = rw (← core_of_is) is'.1 };
+            is_text = subst (λ (core : CoreParts). text ≡ spelled (state_left command.options core begun.query (ended bytes) written)) core_is is.0;
+            valid = record { query = is_accepted; run = subst (λ (core : CoreParts). IsStateOf core left) core_of_is run_is };
           }
 
       to-save : (text : List ℕ) → IsTextOfRun run begun.query written text

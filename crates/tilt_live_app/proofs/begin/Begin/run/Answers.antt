@@ -13,3 +13,6 @@ returns-in_ok-run-in-Some-clause-is g c = λ start at.
     let from = rw c.in-Some.is at at in
     let ensures = c.in_ok-run-in-Some.ensures in
     rw from.4 (record { is = ensures.is from.0 from.1 from.2 from.3; placed = ensures.placed from.0 from.1 from.2 from.3 })
+
+pub returns-in-None-clause-adds : goal.returns-in-None-clause-adds
+returns-in-None-clause-adds g c = λ start at. let first = rw c.in-None.is at at in rw first c.start.ensures.adds
