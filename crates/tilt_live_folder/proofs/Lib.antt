@@ -1,0 +1,5 @@
+mod Commits
+mod Ranges
+mod Running
+mod Tails
+mod Taking
