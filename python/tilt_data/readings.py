@@ -82,7 +82,7 @@ def column(header: list[str], name: str, path: str) -> int:
 
 
 def columns_of(header: list[str], words: argparse.Namespace, path: str) -> Columns:
-    """The columns that the words name."""
+    """The columns that the arguments name."""
     if words.time is None:
         raise refused_at(path, 1, f"which column has the times? --time COL; there are: {', '.join(header)}")
     time = column(header, words.time, path)
@@ -115,7 +115,7 @@ def check_titles(header: list[str], values: list[int], path: str) -> None:
 
 
 def readings_of(source: str, words: argparse.Namespace) -> Iterator[Reading]:
-    """Each reading: its moment, its line, its key, the name of its series, and the text of its value. The source is the file of the words,
+    """Each reading: its moment, its line, its key, the name of its series, and the text of its value. The source is the file given,
     or a copy of it."""
     path, moments, delimiter = words.file, Moments(words.unit, zone_of(words.zone)), delimiter_of(words.delimiter)
     with reading(source, path) as file:
@@ -300,7 +300,7 @@ class Converting:
         return Notes(self.clock, self.scales.of(series.name).scale, kind, series.name, key, self.words.zone)
 
     def told(self, most: int = 10) -> Iterator[str]:
-        """What is told of each series, and of those after the tenth how many they are."""
+        """A line about each of the first ten series, and how many there are after them."""
         if not self.begun:
             yield "no reading, and no series"
             return
@@ -340,7 +340,7 @@ def file_of(key: str, name: str, prefix: bool) -> str:
 
 @dataclasses.dataclass
 class Scales:
-    """The scale of each series: its own where the words name one, and else that of all others."""
+    """The scale of each series: its own if the arguments name one, and otherwise that of all others."""
 
     named: dict[str, Scale]
     others: Scale
@@ -350,7 +350,7 @@ class Scales:
 
 
 def scales_of(words: argparse.Namespace, path: str, convention: TextConvention) -> Scales:
-    """The scales that the words name. An `auto` without a name is one scale for all series that have none of their own."""
+    """The scales that the arguments name. An `auto` without a name is one scale for all series that have none of their own."""
     given = dict(convention.scale) if isinstance(convention.scale, Mapping) else {}
     digits = digits_of(path, words, convention) if "auto" in given.values() else {}
     most = max((count for name, count in digits.items() if name not in given), default=0)
