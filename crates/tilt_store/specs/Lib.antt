@@ -5,6 +5,7 @@ pub mod DiskFolder
 pub mod Errors
 pub mod Kept
 pub mod MemFolder
+pub mod MemFolders
 pub mod MemLaws
 pub mod Open
 pub mod Runs
