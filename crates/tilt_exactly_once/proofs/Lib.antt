@@ -1,5 +1,8 @@
+mod Called
+mod Fed
 mod Moments
 mod Opening
+mod Passed
 mod Running
 mod Serving
 mod Steps

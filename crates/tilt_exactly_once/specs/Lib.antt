@@ -1,5 +1,7 @@
 pub mod Committed
+pub mod Feeding
 pub mod Halts
 pub mod Opening
+pub mod Passing
 pub mod Runs
 pub mod Serving

@@ -1,6 +1,7 @@
 -- Programs that serve one feed into a folder, one after another (our own rule).
-use Rattle.std.specs.Prelude.{◌≡◌, ⊤, ℕ, List, [], ◌∷◌, ◌++◌}
+use Rattle.std.specs.Prelude.{◌≡◌, ⊤, ℕ, List, [], ◌∷◌, ◌++◌, drop}
 use Rattle.tilt_exactly_once.specs.Committed.{Holds, HoldsFront}
+use Rattle.tilt_port.specs.Transcript.{Transcript}
 use Rattle.tilt_store.specs.Commit.{Commit}
 use Rattle.tilt_store.specs.Kept.{Kept}
 
@@ -28,6 +29,12 @@ module _ (Is : List ℕ → Commit → Type 0) (feed : List ℕ) where
 abbrev pub last_left : Kept → List Kept → Kept
 last_left old [] = old
 last_left old (new ∷ later) = last_left new later
+
+-- what was read between two moments are the bytes of a feed from that byte on, up to where more come
+pub record GivesFrom (feed : List ℕ) (from : ℕ) (more : List ℕ) (old new : Transcript) : Type 0 where
+  pub read : List ℕ
+  pub is_read : new.read ≡ old.read ++ read
+  pub given : drop from feed ≡ read ++ more
 
 -- a folder in which nothing is
 abbrev pub no_files : Kept

@@ -23,10 +23,11 @@ module _ {F M Of : Type 0} (seen : F → Kept) (may_leave : F → Kept → Type 
 
   module _ (commits : Of → List ℕ → Commit → Type 0) (stops fits : Of → List ℕ → Type 0) (moment : F → ℕ) (left_since : F → ℕ → Kept → Type 0)
       (port_tells : Type 0) (first : F) (start : List ℕ) (old : Transcript) where
-    -- bytes of the feed were read and taken, and each crash since the first moment leaves the commit of a front of them
+    -- bytes of the feed were read and taken, nothing was written to the port, and each crash since the first moment leaves the commit of a front of them
     pub record GoesOn (folder : F) (machine : M) (written : ℕ) (new : Transcript) : Type 0 where
       pub read : List ℕ
       pub from_port : port_tells → new.read ≡ old.read ++ read
+      pub unwritten : port_tells → new.written ≡ old.written
       pub underway : IsUnderway folder machine written (start ++ read)
       pub held : HoldsFront (commits of) start read (seen folder)
       pub leaves : LeavesOnly moment left_since first folder (HoldsFront (commits of) start read)
@@ -35,6 +36,8 @@ module _ {F M Of : Type 0} (seen : F → Kept) (may_leave : F → Kept → Type 
     pub record HasServed (folder : F) (new : Transcript) (result : Result (Unit {0}) Halt) : Type 0 where
       pub read : List ℕ
       pub from_port : port_tells → new.read ≡ old.read ++ read
+      -- nothing was written to the port
+      pub unwritten : port_tells → new.written ≡ old.written
       -- each crash at any moment leaves the commit of the bytes from before, and a front of those that were read
       pub leaves : LeavesOnly moment left_since first folder (HoldsFront (commits of) start read)
       -- if the feed ended, all that was read is committed, and each crash from then on leaves that

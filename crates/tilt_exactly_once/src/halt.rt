@@ -37,6 +37,12 @@ pub enum Halt {
     /// A file of the folder couldn't be read or written. The folder's count of faults rose.
     #[error("a file could not be read or written")]
     Failed,
+    /// The feed is read from a byte after those that are committed, so bytes between are missing.
+    #[error("the feed starts after what is committed")]
+    Gap,
+    /// The feed ended before those that are committed, so it isn't the same feed.
+    #[error("the feed ends before what is committed")]
+    Short,
 }
 
 impl From<AllocError> for Halt {

@@ -6,16 +6,23 @@
 //! of what was read. `specs/Serving` has its parts.
 #![tactic(auto)]
 
+mod failure;
+mod feed;
 mod halt;
 mod keeper;
 mod law;
 mod machine;
+mod passing;
+mod plan;
 mod refusal;
 mod start;
 
+pub use failure::Failure;
+pub use feed::{Served, count_committed, serve_feed};
 pub use halt::{Halt, Stop};
 pub use keeper::Keeper;
-pub use law::runs_hold_a_front;
+pub use law::{passing_leaves_the_rest, programs_are_runs, runs_hold_a_front};
 pub use machine::{Machine, Resumed, Started};
+pub use plan::Plan;
 pub use refusal::{Refusal, StartError};
 pub use start::open;

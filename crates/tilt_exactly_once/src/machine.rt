@@ -78,6 +78,10 @@ pub trait Machine {
         ensures short { IfErr result (λ stop. stop ≡ Stop.TooLong → ⊥) }
         ensures takes { (n : ℕ) → E.takes err.new n };
 
+    /// How many bytes of the feed it has taken, as far as the count goes.
+    fn taken(&self) -> u64
+        ensures { (of : Of) (bytes : List ℕ) → is self.now of bytes → result ≡ added_count 0 (length bytes) };
+
     /// The text of its state, if so many bytes of output were written.
     fn state(&mut self, alloc: Global, written: u64) -> Result<Vec<u8>, Stop>
         requires { sound self.old }

@@ -4,7 +4,7 @@ ghost use Rattle.tilt_exactly_once.specs.Committed.{Holds};
 ghost use Rattle.tilt_exactly_once.specs.Opening.{IsAt, IsCause, IsCauseIn, IsFault, IsPassing, IsStarted};
 ghost use Rattle.tilt_outside.specs.Faults.{Rose};
 ghost use Rattle.tilt_store.specs.Crash.{LeavesOnly, Only};
-ghost use Rattle.tilt_store.specs.Open.{IsOpen};
+ghost use Rattle.tilt_store.specs.Open.{IsOpen, OpensSame, SameCommit};
 
 use crate::keeper::Keeper;
 use crate::machine::Machine;
@@ -26,10 +26,14 @@ pub fn open<F: Folder, M: Machine + Drop>(
         folder keeper.ledger.folder keeper.machine keeper.written bytes) }
     ensures any_moment { F.tells → (bytes : List ℕ) → Holds (M.commits (M.of recipe)) bytes (F.seen folder)
         → IfErr result (λ e. LeavesOnly F.moment F.left_since folder e.1 (Holds (M.commits (M.of recipe)) bytes)) }
+
+    // Whatever it held: it isn't served into, and each crash leaves that.
+    ensures kept { F.tells → IfErr result (λ e. LeavesOnly F.moment F.left_since folder e.1 (OpensSame [] (F.seen folder))) }
     ensures taken { F.tells → (bytes : List ℕ) → Holds (M.commits (M.of recipe)) bytes (F.seen folder)
         → IfErr result (λ e. IsPassing e.0) }
     ensures cause { F.tells → IfErr result (λ e. IsCause (M.rejects recipe) (F.seen folder) e.0) }
     ensures failed { IfErr result (λ e. IsFault e.0 → Rose (F.faults folder) (F.faults e.1)) }
+    ensures faults { IfOk result (λ keeper. F.faults folder ≤ F.faults keeper.ledger.folder) }
     ensures sound { IfOk result (λ keeper. M.sound keeper.machine) }
     ensures is_open { F.tells → IfOk result (λ keeper. IsOpen (F.seen keeper.ledger.folder) (F.may_leave keeper.ledger.folder)) }
 {
@@ -50,12 +54,15 @@ fn begin<F: Folder, M: Machine + Drop>(
     ensures started { F.tells → (bytes : List ℕ) → IsAt (M.commits (M.of recipe)) bytes (F.seen ledger.folder) state.now
         → IfOk result (λ keeper. IsStarted F.seen F.may_leave M.is M.output M.commits F.moment F.left_since (M.of recipe)
         ledger.folder keeper.ledger.folder keeper.machine keeper.written bytes) }
+    ensures kept { F.tells → IfErr result (λ e. LeavesOnly F.moment F.left_since ledger.folder e.1 (SameCommit (F.seen ledger.folder))) }
     ensures any_moment { F.tells → (bytes : List ℕ) → IsAt (M.commits (M.of recipe)) bytes (F.seen ledger.folder) state.now
         → IfErr result (λ e. LeavesOnly F.moment F.left_since ledger.folder e.1 (Holds (M.commits (M.of recipe)) bytes)) }
     ensures taken { F.tells → (bytes : List ℕ) → IsAt (M.commits (M.of recipe)) bytes (F.seen ledger.folder) state.now
         → IfErr result (λ e. IsPassing e.0) }
     ensures cause { IfErr result (λ e. IsCauseIn (M.rejects recipe) state.now e.0) }
     ensures failed { IfErr result (λ e. IsFault e.0 → Rose (F.faults ledger.folder) (F.faults e.1)) }
+    ensures faults { MatchResult result (λ keeper. F.faults ledger.folder ≤ F.faults keeper.ledger.folder)
+        (λ e. F.faults ledger.folder ≤ F.faults e.1) }
     ensures sound { IfOk result (λ keeper. M.sound keeper.machine) }
     ensures is_open { F.tells → IfOk result (λ keeper. IsOpen (F.seen keeper.ledger.folder) (F.may_leave keeper.ledger.folder)) }
 {
@@ -78,11 +85,14 @@ fn begin_new<F: Folder, M: Machine + Drop>(
     ensures started { F.tells → (bytes : List ℕ) → IsAt (M.commits (M.of recipe)) bytes (F.seen ledger.folder) []
         → IfOk result (λ keeper. IsStarted F.seen F.may_leave M.is M.output M.commits F.moment F.left_since (M.of recipe)
         ledger.folder keeper.ledger.folder keeper.machine keeper.written bytes) }
+    ensures kept { F.tells → IfErr result (λ e. LeavesOnly F.moment F.left_since ledger.folder e.1 (SameCommit (F.seen ledger.folder))) }
     ensures any_moment { F.tells → (bytes : List ℕ) → IsAt (M.commits (M.of recipe)) bytes (F.seen ledger.folder) []
         → IfErr result (λ e. LeavesOnly F.moment F.left_since ledger.folder e.1 (Holds (M.commits (M.of recipe)) bytes)) }
     ensures taken { IfErr result (λ e. IsPassing e.0) }
     ensures cause { (state : List ℕ) → IfErr result (λ e. IsCauseIn (M.rejects recipe) state e.0) }
     ensures failed { IfErr result (λ e. IsFault e.0 → Rose (F.faults ledger.folder) (F.faults e.1)) }
+    ensures faults { MatchResult result (λ keeper. F.faults ledger.folder ≤ F.faults keeper.ledger.folder)
+        (λ e. F.faults ledger.folder ≤ F.faults e.1) }
     ensures sound { IfOk result (λ keeper. M.sound keeper.machine) }
     ensures is_open { F.tells → IfOk result (λ keeper. IsOpen (F.seen keeper.ledger.folder) (F.may_leave keeper.ledger.folder)) }
 {

@@ -1,11 +1,12 @@
 -- The run of a query, as a machine whose output goes into a folder.
-use Rattle.std.specs.Prelude.{◌≡◌, ℕ, false, List, []}
+use Rattle.std.specs.Prelude.{◌≡◌, ℕ, false, List, [], length}
 use Rattle.tilt_checkpoint.specs.Valid.{IsAccepted}
 use Rattle.tilt_feed_text.specs.Split.{unfinished}
 use Rattle.tilt_live_folder.specs.Feeds.{LiveFeed}
 use Rattle.tilt_live_folder.specs.declared.machine.LiveMachine.{LiveMachine}
 use Rattle.tilt_live_run.specs.Left.{KeepsState}
 use Rattle.tilt_live_run.specs.Runs.{IsPlaced, IsRunOf, IsSound, is_stopped}
+use Rattle.tilt_outside.specs.Counts.{added_count}
 use Rattle.tilt_types.specs.Checked.{core_of}
 
 -- the machine runs this query after these bytes of its feed, of which no line stops it
@@ -14,6 +15,7 @@ pub record IsRunning (machine : LiveMachine) (feed : LiveFeed) (bytes : List ℕ
   pub placed : IsPlaced machine.run bytes
   pub no_stop : is_stopped feed.options feed.accepted.core [] bytes ≡ false
   pub tail : machine.tail.items ≡ unfinished bytes
+  pub taken : machine.taken ≡ added_count 0 (length bytes)
   pub query : machine.query ≡ feed.query
   pub accepted : IsAccepted feed.query
   pub core : core_of feed.query ≡ feed.accepted.core

@@ -29,6 +29,8 @@ pub struct LiveMachine {
     pub(crate) query: Query,
     // The bytes of the line whose LF hasn't come yet.
     pub(crate) tail: Vec<u8>,
+    // How many bytes it has taken, as far as the count goes.
+    pub(crate) taken: u64,
 }
 
 impl LiveMachine {
@@ -76,9 +78,11 @@ impl Machine for LiveMachine {
             Err(_) => return Err(Stop::OutOfMemory),
         }
         match grow(&mut self.tail, piece) {
-            Ok(()) => Ok(buffer.bytes),
-            Err(_) => Err(Stop::OutOfMemory),
+            Ok(()) => {}
+            Err(_) => return Err(Stop::OutOfMemory),
         }
+        self.taken = self.taken.saturating_add(piece.len() as u64);
+        Ok(buffer.bytes)
     }
 
     fn end<E: Sink>(&self, err: &mut E) -> Result<(), Stop> {
@@ -86,6 +90,10 @@ impl Machine for LiveMachine {
             Ok(()) => Ok(()),
             Err(_) => Err(Stop::BadLine),
         }
+    }
+
+    fn taken(&self) -> u64 {
+        self.taken
     }
 
     fn state(&mut self, alloc: Global, written: u64) -> Result<Vec<u8>, Stop> {
@@ -114,6 +122,7 @@ impl Machine for LiveMachine {
                     run,
                     query,
                     tail: Vec::new(alloc),
+                    taken: 0,
                 },
                 output: buffer.bytes,
             }),

@@ -27,6 +27,7 @@ pub(crate) fn resume_lines(
 {
     let state = recipe.read(alloc, text)?;
     let written = state.progress.written;
+    let taken = state.progress.bytes;
     let LiveRecipe {
         query,
         accepted,
@@ -35,7 +36,12 @@ pub(crate) fn resume_lines(
     let tail = Vec::new(alloc);
     match LiveRun::resume(alloc, accepted, options, state, Keep::State) {
         Ok(run) => Ok(Resumed {
-            machine: LiveMachine { run, query, tail },
+            machine: LiveMachine {
+                run,
+                query,
+                tail,
+                taken,
+            },
             written,
         }),
         Err(_) => Err(Refusal::OutOfMemory),

@@ -19,11 +19,12 @@ returns-in-Ok-clause-is c = λ bytes written left.
     let view : feed ≡ c.args.recipe = c.recipe.view_is in
     let s = c.in_ok-state.ensures.only (state_of c.args.recipe bytes written) left.valid left.in_range left.spelled refl refl in
     let is = s ∙ ap (λ (f : LiveFeed). state_of f bytes written) (sym view) in
-    subst (λ (f : LiveFeed). IsRunning (record { run = c.in-Ok.run'; query = c.recipe.inside.query; tail = c.new-tail.result }) f (ended bytes)) view (record {
+    subst (λ (f : LiveFeed). IsRunning (record { run = c.in-Ok.run'; query = c.recipe.inside.query; tail = c.new-tail.result; taken = c.state.inside.progress.bytes }) f (ended bytes)) view (record {
       is = c.in-Ok.ensures.is feed.query bytes written is;
       placed = c.in-Ok.ensures.placed feed.query bytes written is;
       no_stop = stopped-ended feed.options feed.accepted.core bytes ∙ (subst (λ (f : LiveFeed). IsLeft f bytes written c.args.text.now) (sym view) left).no_stop;
       tail = c.new-tail.ensures.items ∙ sym (are-ended bytes).none;
+      taken = ap (λ (x : LiveStateParts). x.progress.bytes) (c.state.view_is ∙ s);
       query = refl;
       accepted = c.recipe.invariant.0;
       core = c.recipe.invariant.1;

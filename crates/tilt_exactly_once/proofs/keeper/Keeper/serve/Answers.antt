@@ -1,4 +1,4 @@
-use Rattle.std.proofs.Common.{◌∙◌, List, ℕ, [], sym, subst, ap, append-nil, Err}
+use Rattle.std.proofs.Common.{◌∙◌, List, ℕ, [], refl, sym, subst, ap, append-nil, Err}
 use Rattle.std.proofs.lemmas.Result.{err_from_is_err_and}
 use Rattle.tilt_exactly_once.proofs.Serving.{leaves-first}
 use Rattle.tilt_exactly_once.proofs.Steps.{front-none}
@@ -12,6 +12,7 @@ returns-in_err-room-clause-served g c told of bytes underway holds =
     rw (p.1 ∙ ap Err p.2) (record {
       read = [];
       from_port = λ _. sym (append-nil (g.P.Port.transcript c.args.port.now).read);
+      unwritten = λ _. refl;
       leaves = leaves-first g.F.Folder.seen g.F.Folder.may_leave g.F.Folder.moment g.F.Folder.left_since (g.M.Machine.commits of) folder bytes underway.is_open
           (g.met.F.Folder.only_now folder) holds;
       whole = tt;
@@ -27,6 +28,7 @@ returns-clause-served g c told of bytes underway holds =
     c.serve_all.ensures.served told of folder bytes (g.P.Port.transcript c.args.port.now) (record {
       read = [];
       from_port = λ _. sym (append-nil (g.P.Port.transcript c.args.port.now).read);
+      unwritten = λ _. refl;
       underway = subst (λ (l : List ℕ). IsUnderway g.F.Folder.seen g.F.Folder.may_leave g.M.Machine.is g.M.Machine.output of folder c.args.self.now.machine
           c.args.self.now.written l) (sym (append-nil bytes)) underway;
       held = front-none (g.M.Machine.commits of) bytes (g.F.Folder.seen folder) holds;

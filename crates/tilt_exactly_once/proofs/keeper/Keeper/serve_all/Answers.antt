@@ -11,6 +11,7 @@ returns-clause-served g c told of first bytes old going =
     record {
       read = here.read;
       from_port = here.from_port;
+      unwritten = here.unwritten;
       leaves = here.leaves;
       whole = tt;
       settled = tt;

@@ -8,6 +8,7 @@ pub returns-in_default-clause-stepped : goal.returns-in_default-clause-stepped
 returns-in_default-clause-stepped g c told of first start old going = record {
   read = going.read;
   from_port = λ t. (c.in_default.ensures.read t).piece ∙ going.from_port t;
+  unwritten = λ t. (c.in_default.ensures.read t).written ∙ going.unwritten t;
   leaves = going.leaves;
   whole = tt;
   settled = tt;
@@ -22,6 +23,7 @@ returns-in_err-commit-clause-stepped g c told of first start old going =
     rw (p.1 ∙ ap Err p.2) (record {
       read = going.read;
       from_port = λ t. read-end _ _ c.read.new.room (rw c.if-count-eq0.true at (c.in-Ok.ensures.read t)) ∙ going.from_port t;
+      unwritten = λ t. (c.in-Ok.ensures.read t).written ∙ going.unwritten t;
       leaves = leaves-on g.F.Folder.seen g.F.Folder.moment g.F.Folder.left_since (g.M.Machine.commits of) first _ c.commit.new.self.ledger.folder start going.read
           going.held going.leaves (c.in_err-commit.ensures.any_moment told of (start ++ going.read) going.underway);
       whole = tt;
@@ -38,6 +40,7 @@ returns-in_err-end-clause-stepped g c told of first start old going =
     rw (p.1 ∙ ap Err p.2) (record {
       read = going.read;
       from_port = λ t. read-end _ _ c.read.new.room (rw c.if-count-eq0.true at (c.in-Ok.ensures.read t)) ∙ going.from_port t;
+      unwritten = λ t. (c.in-Ok.ensures.read t).written ∙ going.unwritten t;
       leaves = leaves-on g.F.Folder.seen g.F.Folder.moment g.F.Folder.left_since (g.M.Machine.commits of) first _ c.commit.new.self.ledger.folder start going.read
           going.held going.leaves (c.in_ok-commit.ensures.any_moment told of (start ++ going.read) going.underway);
       whole = tt;
@@ -51,6 +54,7 @@ pub returns-then-count-eq0-clause-stepped : goal.returns-then-count-eq0-clause-s
 returns-then-count-eq0-clause-stepped g c told of first start old going = record {
   read = going.read;
   from_port = λ t. read-end _ _ c.read.new.room (rw c.if-count-eq0.true at (c.in-Ok.ensures.read t)) ∙ going.from_port t;
+  unwritten = λ t. (c.in-Ok.ensures.read t).written ∙ going.unwritten t;
   leaves = leaves-on g.F.Folder.seen g.F.Folder.moment g.F.Folder.left_since (g.M.Machine.commits of) first _ c.commit.new.self.ledger.folder start going.read
       going.held going.leaves (c.in_ok-commit.ensures.any_moment told of (start ++ going.read) going.underway);
   whole = c.in_ok-commit.ensures.committed told of (start ++ going.read) going.underway;
@@ -67,6 +71,7 @@ returns-in_err-take-clause-stepped g c told of first start old going =
     rw (p.1 ∙ ap Err p.2) (record {
       read = going.read ++ piece;
       from_port = λ t. read-more old _ _ c.read.new.room going.read c.in-Ok.count (going.from_port t) (c.in-Ok.ensures.read t);
+      unwritten = λ t. (c.in-Ok.ensures.read t).written ∙ going.unwritten t;
       leaves = leaves-taken g.F.Folder.seen g.F.Folder.moment g.F.Folder.left_since (g.M.Machine.commits of) first _ c.take.new.self.ledger.folder start going.read
           piece going.held going.leaves (c.in_err-take.ensures.any_moment told);
       whole = tt;
@@ -92,6 +97,7 @@ returns-in_err-commit_if_due-clause-stepped g c told of first start old going =
     rw (p.1 ∙ ap Err p.2) (record {
       read = going.read ++ piece;
       from_port = λ t. read-more old _ _ c.read.new.room going.read c.in-Ok.count (going.from_port t) (c.in-Ok.ensures.read t);
+      unwritten = λ t. (c.in-Ok.ensures.read t).written ∙ going.unwritten t;
       leaves = leaves-on g.F.Folder.seen g.F.Folder.moment g.F.Folder.left_since Is first mid c.commit_if_due.new.self.ledger.folder start (going.read ++ piece)
           held so_far (c.in_err-commit_if_due.ensures.any_moment told of (start ++ (going.read ++ piece)) taken);
       whole = tt;
@@ -114,6 +120,7 @@ returns-clause-stepped g c told of first start old going =
     record {
       read = going.read ++ piece;
       from_port = λ t. read-more old _ _ c.read.new.room going.read c.in-Ok.count (going.from_port t) (c.in-Ok.ensures.read t);
+      unwritten = λ t. (c.in-Ok.ensures.read t).written ∙ going.unwritten t;
       underway = c.in_ok-commit_if_due.ensures.underway told of (start ++ (going.read ++ piece)) taken;
       held = front-either Is start (going.read ++ piece) _ _ held (c.in_ok-commit_if_due.ensures.same told of (start ++ (going.read ++ piece)) taken);
       leaves = leaves-on g.F.Folder.seen g.F.Folder.moment g.F.Folder.left_since Is first mid c.commit_if_due.new.self.ledger.folder start (going.read ++ piece)

@@ -21,6 +21,7 @@ returns-clause-goes_on c = λ feed bytes is.
       placed = c.state.ensures.placed bytes is.placed;
       no_stop = is.no_stop;
       tail = is.tail;
+      taken = is.taken;
       query = is.query;
       accepted = is.accepted;
       core = is.core;
