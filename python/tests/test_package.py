@@ -181,7 +181,20 @@ def test_the_completion_has_the_commands_and_their_options(root):
 
 
 def test_the_completion_has_the_options_of_tilt_live(root):
-    options = ["--begun", "--strict", "--plain", "--lateness", "--idle", "--ahead", "--resume", "--save"]
+    options = [
+        "--begun",
+        "--strict",
+        "--plain",
+        "--lateness",
+        "--idle",
+        "--ahead",
+        "--resume",
+        "--save",
+        "--folder",
+        "--every",
+        "--from",
+        "--position",
+    ]
     assert offered(root, "tilt-live", "query.tilt", "--", by="_tilt_live") == options
 
 

@@ -1,5 +1,5 @@
 -- The end of a call: what was kept of the run, after the feed was served.
-use Rattle.std.proofs.Common.{◌≡◌, ◌⊎◌, ℕ, List, Option, None, Some, Result, Ok, Err, MatchResult, inl, inr, refl, sym, ap, ◌∙◌, subst}
+use Rattle.std.proofs.Common.{◌≡◌, ◌⊎◌, ℕ, List, Option, None, Some, Result, Ok, Err, inl, inr, refl, ap, ◌∙◌, subst}
 use Rattle.std.specs.Prelude.{⊤, ◌-◌, ◌↔◌, length, IfErr}
 use Rattle.tilt_checkpoint.specs.Valid.{IsAccepted}
 use Rattle.tilt_compiler.specs.Accepted.{AcceptedParts}
@@ -9,7 +9,9 @@ use Rattle.tilt_live_app.specs.Arguments.{CommandValue, IsLiveCommand}
 use Rattle.tilt_live_app.specs.Begun.{IsBegun}
 use Rattle.tilt_live_app.specs.Change.{IsSaved, IsUnsaved, ShelfChange, shelf_change}
 use Rattle.tilt_live_app.specs.Keeping.{HasKept, IsSaveFailure, IsTextOfRun}
-use Rattle.tilt_live_app.specs.Lived.{HasLived, HasRun, IsDone, IsSaving, IsServed, IsTextOf, IsToSave, no_command, no_memory, not_kept, with_state}
+use Rattle.tilt_live_app.specs.Done.{HasRun, IsSaving, IsServed, IsToSave, not_kept, with_state}
+use Rattle.tilt_live_app.specs.InFolder.{FolderMeaning, FoldersChange}
+use Rattle.tilt_live_app.specs.Lived.{HasLived, no_command, no_memory}
 use Rattle.tilt_live_app.specs.Resumed.{IsTextAfter, StartsAt, written_before}
 use Rattle.tilt_live_app.specs.Served.{HasEnded, HasServed, Start}
 use Rattle.tilt_live_app.specs.Serving.{IsRunAt}
@@ -23,9 +25,8 @@ use Rattle.tilt_live_run.specs.Left.{state_left}
 use Rattle.tilt_live_run.specs.Reported.{Reported}
 use Rattle.tilt_live_run.specs.declared.live_run.LiveRun.{LiveRun}
 use Rattle.tilt_live_state.specs.Spelling.{spelled}
-use Rattle.tilt_live_state.specs.Valid.{IsState, IsStateOf}
+use Rattle.tilt_live_state.specs.Valid.{IsStateOf}
 use Rattle.tilt_outside.specs.Counts.{added_count}
-use Rattle.tilt_outside.specs.Faults.{Rose}
 use Rattle.tilt_outside.specs.Reads.{OnlyReads}
 use Rattle.tilt_port.specs.Transcript.{Transcript}
 use Rattle.tilt_report.specs.Report.{line_of, report_of_words, status_of}
@@ -150,8 +151,9 @@ unsaving words command is none = save-none command.save (λ name save. none (com
 
 -- arguments that weren't read
 pub words-lived : {K : Type 0} (shelf : ShelfChange) (tells : Type 0) (old new : Transcript) (err_tells : Type 0) (err_written : K → List ℕ) (err_faults : K → ℕ)
-    (words : List (List ℕ)) (err err_then : K) (fault : WordsFault) → (fault ≡ Usage → (command : CommandValue) → ¬ (IsLiveCommand words command)) → new ≡ old
+    {F : Type 0} (means : FolderMeaning F) (folders : FoldersChange F) (words : List (List ℕ)) (err err_then : K) (fault : WordsFault)
+    → (fault ≡ Usage → (command : CommandValue) → ¬ (IsLiveCommand words command)) → new ≡ old
     → Reported err_tells err_written err_faults err err_then (line_of (report_of_words fault))
-    → HasLived shelf tells old new err_tells err_written err_faults words err err_then (status_of (report_of_words fault))
-words-lived shelf tells old new err_tells err_written err_faults words err err_then Usage none same line = no_command (none refl) same line
-words-lived shelf tells old new err_tells err_written err_faults words err err_then OutOfMemory none same line = no_memory same line
+    → HasLived shelf tells old new err_tells err_written err_faults means folders words err err_then (status_of (report_of_words fault)) None
+words-lived shelf tells old new err_tells err_written err_faults means folders words err err_then Usage none same line = no_command (none refl) same line
+words-lived shelf tells old new err_tells err_written err_faults means folders words err err_then OutOfMemory none same line = no_memory same line

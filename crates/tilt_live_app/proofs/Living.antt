@@ -1,5 +1,5 @@
 -- Why a feed isn't begun.
-use Rattle.std.proofs.Common.{◌≡◌, ℕ, List, Option, Some, Ok, ap, sym, subst, ◌∙◌}
+use Rattle.std.proofs.Common.{◌≡◌, ℕ, List, Some, Ok, ap, sym, subst, ◌∙◌}
 use Rattle.tilt_bounds.specs.Margins.{margins_of}
 use Rattle.tilt_checkpoint.specs.Valid.{IsAccepted}
 use Rattle.tilt_compiler.specs.Accepted.{AcceptedParts, IsAccepted as IsCompiled}

@@ -1,5 +1,5 @@
 -- States that a file spells, and queries that are printed the same.
-use Rattle.std.proofs.Common.{◌≡◌, ℕ, Bool, true, false, IsTrue, List, ◌≤◌, length, refl, subst, sym}
+use Rattle.std.proofs.Common.{◌≡◌, ℕ, Bool, true, false, IsTrue, List, ◌≤◌, length, refl, subst}
 use Rattle.tilt_base.specs.declared.limits.TheConstants.{FILE}
 use Rattle.tilt_lexer.specs.Tokens.{AreTokens}
 use Rattle.tilt_live_app.specs.StateFile.{SpellsState}

@@ -1,6 +1,9 @@
 pub mod Arguments
 pub mod Begun
 pub mod Change
+pub mod Done
+pub mod FolderReport
+pub mod InFolder
 pub mod Keeping
 pub mod Lived
 pub mod Resumed

@@ -1,91 +1,26 @@
--- What the program does (our own rule).
-use Rattle.std.specs.Prelude.{◌≡◌, ⊤, ℕ, List, [], codes, Option, None, Some, Result, Ok, Err, MatchResult}
-use Rattle.tilt_live_app.specs.Arguments.{CommandValue, IsLiveCommand}
-use Rattle.tilt_live_app.specs.Begun.{IsBegun, IsUnbegun}
-use Rattle.tilt_live_app.specs.Change.{IsSaved, IsUnsaved, ShelfChange}
-use Rattle.tilt_live_app.specs.Resumed.{IsTextAfter, StartsAt}
-use Rattle.tilt_live_app.specs.Served.{HasEnded, Start}
-use Rattle.tilt_live_app.specs.declared.failure.Failure.{Failure}
-use Rattle.tilt_live_app.specs.declared.failure.Failure.TheVariants.{Halted, Unbegun, Unmade, Unsaved}
-use Rattle.tilt_live_app.specs.declared.failure.Halt.{Halt}
-use Rattle.tilt_live_app.specs.declared.failure.Halt.TheVariants as halt
+-- What the program does with its arguments (our own rule).
+use Rattle.std.specs.Prelude.{◌≡◌, ℕ, List, Option, None, Some}
+use Rattle.tilt_live_app.specs.Arguments.{CommandValue, FolderValue, IsLiveCommand}
+use Rattle.tilt_live_app.specs.Change.{ShelfChange}
+use Rattle.tilt_live_app.specs.Done.{HasDone}
+use Rattle.tilt_live_app.specs.InFolder.{FolderMeaning, FoldersChange, HasDoneIn}
 use Rattle.tilt_live_run.specs.Reported.{Reported}
 use Rattle.tilt_port.specs.Transcript.{Transcript}
-use Rattle.tilt_report.specs.Report.{Report, line_of, out_of_memory, read_fault, report_of, save_fault, status_of, usage, write_fault}
+use Rattle.tilt_report.specs.Report.{line_of, out_of_memory, usage}
 
--- the status if something halted the feed
-abbrev pub status_of_halt : Halt → ℕ
-status_of_halt halt.BadLine = 1
-status_of_halt halt.ReadFault = 3
-status_of_halt halt.WriteFault = 4
-status_of_halt halt.OutOfMemory = 5
-
--- the line that reports it, after the reports of bad lines
-abbrev pub line_of_halt : Halt → List ℕ
-line_of_halt halt.BadLine = []
-line_of_halt halt.ReadFault = line_of (read_fault (codes "-"))
-line_of_halt halt.WriteFault = line_of write_fault
-line_of_halt halt.OutOfMemory = line_of out_of_memory
-
--- the arguments are a command that saves a state
-abbrev pub IsSaving : List (List ℕ) → Type 0
-IsSaving words = (command : CommandValue) × IsLiveCommand words command × ((name : List ℕ) × (command.save ≡ Some name))
-
--- The shelf and the port before and after, and what a sink of reports says.
-module _ {K : Type 0} (shelf : ShelfChange) (tells : Type 0) (old new : Transcript) (err_tells : Type 0) (err_written : K → List ℕ) (err_faults : K → ℕ) where
-  -- of a command
-  module _ (command : CommandValue) where
-    -- The feed was served to this end, from wherever the run may start. If it ended by itself, this is so of its query, its core and its
-    -- state, and of all bytes of the feed
-    pub record IsServed (Is : IsBegun shelf command → List ℕ → Type 0) (end : Result (Unit {0}) Halt) (err err_then : K) : Type 0 where
-      pub begun : IsBegun shelf command
-      pub served : (start : Start) → StartsAt command.options begun.core begun.from start
-          → HasEnded begun.core command.options start tells old new err_tells err_written err_faults err err_then (Is begun) end
-      -- if it ended by itself or by a bad line, all of the output was handed on
-      pub handed_on : MatchResult end (λ _. new.held_back ≡ 0) (λ why. why ≡ halt.BadLine → new.held_back ≡ 0)
-
-    -- the text is that of the state after all bytes of the feed
-    abbrev pub IsTextOf : List ℕ → IsBegun shelf command → List ℕ → Type 0
-    IsTextOf text begun bytes = IsTextAfter command.options begun.core tells old new begun.query begun.from text bytes
-
-    -- the feed ended by itself, and its state, of which this is the text, was to be saved under a name
-    pub record IsToSave (text name : List ℕ) (err err_then : K) : Type 0 where
-      pub save : command.save ≡ Some name
-      pub served : IsServed (IsTextOf text) (Ok tt) err err_then
-
-    -- the feed ended by itself, and its state was saved if it was to be
-    pub data IsDone (err err_then : K) : Type 0 where
-      not_kept : command.save ≡ None → IsServed (λ _ _. ⊤) (Ok tt) err err_then → IsDone err err_then
-      with_state : (text name : List ℕ) → IsToSave text name err err_then → IsSaved shelf name text → IsDone err err_then
-
-    -- what the program does if this is its command, a case for each end. It reports why it doesn't start the feed, and nothing is read or
-    -- written. Or it serves the feed, and all is done, or it reports what halted the feed. If the feed ended by itself and its state is to
-    -- be saved, the save can fail, or there can be no memory for the state
-    pub data HasDone (err err_then : K) : ℕ → Type 0 where
-      unbegun : {report : Report} → IsUnbegun shelf command report → new ≡ old
-          → Reported err_tells err_written err_faults err err_then (line_of report) → HasDone err err_then (status_of report)
-      whole : IsDone err err_then → HasDone err err_then 0
-      halted : (why : Halt) (between : K) → IsServed (λ _ _. ⊤) (Err why) err between
-          → Reported err_tells err_written err_faults between err_then (line_of_halt why) → HasDone err err_then (status_of_halt why)
-      unsaved : (text name : List ℕ) (between : K) → IsToSave text name err between → IsUnsaved shelf name text
-          → Reported err_tells err_written err_faults between err_then (line_of (save_fault name)) → HasDone err err_then 6
-      unmade : (name : List ℕ) (between : K) → command.save ≡ Some name → IsServed (λ _ _. ⊤) (Ok tt) err between
-          → Reported err_tells err_written err_faults between err_then (line_of out_of_memory) → HasDone err err_then 5
-
-    -- the same before the end is reported
-    abbrev pub HasRun : K → K → Result (Unit {0}) Failure → Type 0
-    HasRun err err_then (Ok _) = IsDone err err_then
-    HasRun err err_then (Err (Halted why)) = IsServed (λ _ _. ⊤) (Err why) err err_then
-    HasRun err err_then (Err (Unbegun fault)) = IsUnbegun shelf command (report_of fault) × (new ≡ old) × (err_then ≡ err)
-    HasRun err err_then (Err (Unsaved name)) =
-        (text : List ℕ) × IsToSave text name.now err err_then × IsUnsaved shelf name.now text
-    HasRun err err_then (Err Unmade) =
-        (name : List ℕ) × (command.save ≡ Some name) × IsServed (λ _ _. ⊤) (Ok tt) err err_then
-
-  -- what the program does with arguments
-  pub data HasLived (words : List (List ℕ)) (err err_then : K) : ℕ → Type 0 where
+-- The shelf and the port before and after, what a sink of reports says, and the meanings of folders.
+module _ {K : Type 0} (shelf : ShelfChange) (tells : Type 0) (old new : Transcript) (err_tells : Type 0) (err_written : K → List ℕ) (err_faults : K → ℕ)
+    {F : Type 0} (means : FolderMeaning F) (folders : FoldersChange F) where
+  -- The arguments are no command, or there is no memory to read them. Or they are a command that chooses no folder, or one that does. The
+  -- last two are the status, and the folder that it got
+  pub data HasLived (words : List (List ℕ)) (err err_then : K) : ℕ → Option F → Type 0 where
     no_command : ((command : CommandValue) → ¬ (IsLiveCommand words command)) → new ≡ old
-        → Reported err_tells err_written err_faults err err_then (line_of usage) → HasLived words err err_then 2
-    no_memory : new ≡ old → Reported err_tells err_written err_faults err err_then (line_of out_of_memory) → HasLived words err err_then 5
-    done : {status : ℕ} (command : CommandValue) → IsLiveCommand words command → HasDone command err err_then status
-        → HasLived words err err_then status
+        → Reported err_tells err_written err_faults err err_then (line_of usage) → HasLived words err err_then 2 None
+    no_memory : new ≡ old → Reported err_tells err_written err_faults err err_then (line_of out_of_memory)
+        → HasLived words err err_then 5 None
+    done : {status : ℕ} (command : CommandValue) → IsLiveCommand words command → command.folder ≡ None
+        → HasDone shelf tells old new err_tells err_written err_faults command err err_then status → HasLived words err err_then status None
+    done_in : {status : ℕ} {found : Option F} (command : CommandValue) (choice : FolderValue) → IsLiveCommand words command
+        → command.folder ≡ Some choice
+        → HasDoneIn shelf tells old new err_tells err_written err_faults command means folders choice err err_then status found
+        → HasLived words err err_then status found

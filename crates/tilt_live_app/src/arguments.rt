@@ -1,13 +1,15 @@
 // The arguments of the program.
-ghost use Rattle.std.specs.Prelude.{◌≡◌, IfOk, MatchResult, codes, option_map, string_bytes};
+ghost use Rattle.std.specs.Prelude.{◌≡◌, Some, IfOk, MatchResult, codes, option_map, string_bytes};
 ghost use Rattle.tilt_cli.specs.Arguments.{AreArguments, ArgumentsValue, arguments_of, no_arguments};
 ghost use Rattle.tilt_cli.specs.Command.{texts};
 ghost use Rattle.tilt_cli.specs.Options.{set_to, text_of};
 ghost use Rattle.tilt_cli.specs.declared.fault.WordsFault.TheVariants.{Usage};
-ghost use Rattle.tilt_live_app.specs.Arguments.{CommandValue, IsLiveCommand, command_value, live_options, run_options};
+ghost use Rattle.tilt_live_app.specs.Arguments.{CommandValue, IsLiveCommand, choice_value, chosen, command_value, live_options};
+ghost use Rattle.tilt_live_app.specs.Arguments.{number_or, options_fit, run_options, task_asked};
 
 use std::alloc::Global;
 use tilt_cli::{Arguments, OptionRow, Shape, WordsFault, is_file};
+use tilt_exactly_once::Plan;
 use tilt_live_run::RunOptions;
 use tilt_watermarks::Options;
 
@@ -24,10 +26,36 @@ pub(crate) struct LiveCommand<'a> {
     pub(crate) resume: Option<String>,
     // The file in which its state is saved, if it is.
     pub(crate) save: Option<String>,
+    // The folder into which its feed is served, if it is served into one.
+    pub(crate) folder: Option<FolderChoice>,
+}
+
+// A folder, and what is done with it.
+#[derive(Drop)]
+pub(crate) struct FolderChoice {
+    pub(crate) name: String,
+    pub(crate) task: Task,
+}
+
+// What is done with a folder.
+#[derive(Clone, Copy, Debug, PartialEq, Eq)]
+pub(crate) enum Task {
+    // How many bytes of the feed are committed is printed.
+    Position,
+    // The feed is served.
+    Serve(Plan),
+}
+
+// The files of states, and a folder.
+#[derive(Drop)]
+struct Files {
+    resume: Option<String>,
+    save: Option<String>,
+    folder: Option<String>,
 }
 
 // All options, each with what it does.
-const LIVE_OPTIONS: [OptionRow; 8] = [
+const LIVE_OPTIONS: [OptionRow; 12] = [
     // prints also what has begun
     OptionRow {
         word: "--begun",
@@ -68,6 +96,26 @@ const LIVE_OPTIONS: [OptionRow; 8] = [
         word: "--save",
         shape: Shape::Text,
     },
+    // writes into a folder, exactly once whatever kills it
+    OptionRow {
+        word: "--folder",
+        shape: Shape::Text,
+    },
+    // commits after every `N` lines
+    OptionRow {
+        word: "--every",
+        shape: Shape::Ticks,
+    },
+    // reads the feed from its byte `N` on
+    OptionRow {
+        word: "--from",
+        shape: Shape::Ticks,
+    },
+    // prints how many bytes of the feed are committed
+    OptionRow {
+        word: "--position",
+        shape: Shape::Flag,
+    },
 ];
 
 // The command that the arguments are.
@@ -90,28 +138,85 @@ pub(crate) fn read_command(alloc: Global, words: &[String]) -> Result<LiveComman
     if !given.binds.is_empty() {
         return Err(WordsFault::Usage);
     }
+    if !options_fit(&given) {
+        return Err(WordsFault::Usage);
+    }
     let plain = given.has("--plain");
     let options = run_options(&given);
-    let (resume, save) = state_files(&mut given);
+    let task = task_asked(&given);
+    let files = take_files(&mut given);
     Ok(LiveCommand {
         query,
         plain,
         options,
-        resume,
-        save,
+        resume: files.resume,
+        save: files.save,
+        folder: choose(files.folder, task),
     })
 }
 
-// The files of the state to go on from and of the state to save. Both options are taken out.
-fn state_files(given: &mut Arguments) -> (Option<String>, Option<String>)
-    ensures resume { option_map (λ text. string_bytes text) result.0
+// Whether the options of folders and states fit together. With a folder there are no files of states. If its position is asked for, there
+// is no plan; and without a folder there is none of this.
+fn options_fit(given: &Arguments) -> bool
+    ensures { result ≡ options_fit (arguments_of given.now).settings }
+{
+    let position = given.has("--position");
+    let planned = given.has("--every") || given.has("--from");
+    let stated = given.has("--resume") || given.has("--save");
+    if given.has("--folder") {
+        !stated && !(position && planned)
+    } else {
+        !(position || planned)
+    }
+}
+
+// What the options ask to be done with a folder.
+fn task_asked(given: &Arguments) -> Task
+    ensures { result ≡ task_asked (arguments_of given.now).settings }
+{
+    if given.has("--position") {
+        return Task::Position;
+    }
+    Task::Serve(Plan {
+        from: number_or(0, given.ticks_of("--from")),
+        every: number_or(1, given.ticks_of("--every")),
+    })
+}
+
+// A number, or another one if there is none.
+fn number_or(other: u64, number: Option<u64>) -> u64
+    ensures { result ≡ number_or other number }
+{
+    number.unwrap_or(other)
+}
+
+// The files of states and the folder. These options are taken out.
+fn take_files(given: &mut Arguments) -> Files
+    ensures resume { option_map (λ text. string_bytes text) result.resume
         ≡ text_of (set_to (codes "--resume") (arguments_of given.old).settings) }
-    ensures save { option_map (λ text. string_bytes text) result.1
+    ensures save { option_map (λ text. string_bytes text) result.save
         ≡ text_of (set_to (codes "--save") (arguments_of given.old).settings) }
+    ensures folder { option_map (λ text. string_bytes text) result.folder
+        ≡ text_of (set_to (codes "--folder") (arguments_of given.old).settings) }
 {
     let resume = given.remove_text("--resume");
     let save = given.remove_text("--save");
-    (resume, save)
+    let folder = given.remove_text("--folder");
+    Files {
+        resume,
+        save,
+        folder,
+    }
+}
+
+// The folder of that name, if there is one, and what is done with it.
+fn choose(name: Option<String>, task: Task) -> Option<FolderChoice>
+    ensures { option_map choice_value result ≡ chosen task (option_map (λ text. string_bytes text) name) }
+{
+    match name {
+        None => None,
+        Some(name) => Some(FolderChoice { name, task }),
+    }
 }
 
 // The arguments after the file of the query.

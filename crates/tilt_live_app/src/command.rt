@@ -4,20 +4,24 @@ ghost use Rattle.tilt_cli.specs.Command.{texts};
 ghost use Rattle.tilt_live_app.specs.Arguments.{CommandValue, IsLiveCommand, command_value};
 ghost use Rattle.tilt_live_app.specs.Change.{shelf_change};
 ghost use Rattle.tilt_live_app.specs.Keeping.{IsSaveFailure};
-ghost use Rattle.tilt_live_app.specs.Lived.{HasDone, HasLived, HasRun, IsSaving};
-ghost use Rattle.tilt_live_run.specs.Reported.{Reported};
+ghost use Rattle.tilt_live_app.specs.Done.{HasDone, HasRun, IsSaving};
+ghost use Rattle.tilt_live_app.specs.InFolder.{folder_meaning, folders_change};
+ghost use Rattle.tilt_live_app.specs.Lived.{HasLived};
 ghost use Rattle.tilt_outside.specs.Reads.{OnlyReads};
 ghost use Rattle.tilt_report.specs.Report.{line_of, report_of, status_of};
 
 use crate::arguments::{LiveCommand, read_command};
 use crate::ended_run::EndedRun;
 use crate::failure::{Failure, Halt};
+use crate::folder_end::report_fault;
+use crate::in_folder::{Lived, obey_in, without_folder};
 use crate::job::load_job;
 use std::alloc::Global;
 use tilt_live_run::Keep;
 use tilt_outside::{Shelf, Sink};
 use tilt_port::Port;
 use tilt_report::Fault;
+use tilt_store::{Folder, Folders};
 
 /// Serves the feed of a query. The arguments are the file of the query and options, each at most once. `--plain` leaves out fusion,
 /// `--begun` writes what has begun, and with `--strict` the first bad line ends it. `--lateness`, `--idle` and `--ahead`, each with a
@@ -28,23 +32,30 @@ use tilt_report::Fault;
 /// run goes on from such a state. It writes only what is final after it, and its feed goes on with the byte after the last LF that the
 /// state has seen.
 ///
-/// The result is the status that the program exits with:
-/// - 0: the feed ended, and its state was saved if it was to be
-/// - 1: the query or the state is rejected, or a line is bad and `--strict` is given
+/// With `--folder FOLDER` nothing is written to the port. The output goes into a file of the folder, and is committed there with the state
+/// of the run. It is committed after every `N` lines (`--every N`, by default 1), and at the end of the feed. The feed is read from its
+/// byte `N` on (`--from N`, by default 0), and what is committed of it is passed over. So whatever kills the program at whatever moment,
+/// the same command serves the same feed to its end, and the folder holds each byte of output once. With `--position` the number of bytes
+/// of the feed that are committed is written to the port, and nothing is read.
+///
+/// The status of the result is the one that the program exits with:
+/// - 0: the feed ended, and its state was saved if it was to be; or the position was printed
+/// - 1: the query, the state, the folder or the feed is rejected, or a line is bad and `--strict` is given
 /// - 2: the arguments are no command
 /// - 3: a read failed
 /// - 4: a write or a flush failed
 /// - 5: memory ran out
-/// - 6: the feed ended, and the save of its state failed
+/// - 6: the feed ended, and the save of its state failed; or a file of the folder couldn't be read or written
 ///
 /// A line on `err` reports each status except 0, and each bad line. A fault of `err` changes nothing.
-pub fn live<S: Shelf, P: Port, E: Sink>(
+pub fn live<S: Shelf, F: Folder, D: Folders<F>, P: Port, E: Sink>(
     alloc: Global,
     words: &[String],
     shelf: &mut S,
+    folders: &mut D,
     port: &mut P,
     err: &mut E,
-) -> u8
+) -> Lived<F>
     requires lent { (command : CommandValue) → IsLiveCommand (texts words.now) command → S.lends command.query }
     requires state_lent { (command : CommandValue) (file : List ℕ) → IsLiveCommand (texts words.now) command
         → command.resume ≡ Some file → S.lends file }
@@ -52,21 +63,28 @@ pub fn live<S: Shelf, P: Port, E: Sink>(
         → command.save ≡ Some file → S.takes shelf.old file n }
     requires lines { (n : ℕ) → E.takes err.old n }
     ensures is { HasLived (shelf_change S.tells S.files S.read_faults S.save_faults shelf.old shelf.new) P.tells
-        (P.transcript port.old) (P.transcript port.new) E.tells E.written E.faults (texts words.now) err.old err.new result }
+        (P.transcript port.old) (P.transcript port.new) E.tells E.written E.faults
+        (folder_meaning F.tells F.seen F.may_leave F.moment F.left_since F.faults)
+        (folders_change D.gives D.faults folders.old folders.new) (texts words.now) err.old err.new result.status result.folder }
 
-    // The files are as before, unless a state was saved. What can be taken still can, and no count falls.
-    ensures rest { (result ≡ 0 → ⊥) → (result ≡ 6 → ⊥) → OnlyReads S.files S.read_faults S.save_faults S.takes shelf.old shelf.new }
+    // The files of the shelf are as before, unless a state was saved. What can be taken still can, and no count falls.
+    ensures rest { (result.status ≡ 0 → ⊥) → (result.status ≡ 6 → ⊥)
+        → OnlyReads S.files S.read_faults S.save_faults S.takes shelf.old shelf.new }
     ensures unsaved { ¬ (IsSaving (texts words.now)) → OnlyReads S.files S.read_faults S.save_faults S.takes shelf.old shelf.new }
     ensures takes { (name : List ℕ) (n : ℕ) → S.takes shelf.old name n ↔ S.takes shelf.new name n }
     ensures counts { (S.read_faults shelf.old ≤ S.read_faults shelf.new) × (S.save_faults shelf.old ≤ S.save_faults shelf.new) }
 {
-    match read_command(alloc, words) {
-        Ok(command) => obey(alloc, &command, shelf, port, err),
-        Err(fault) => report(err, &Fault::from(fault)),
+    let command = match read_command(alloc, words) {
+        Ok(command) => command,
+        Err(fault) => return without_folder(report_fault(err, &Fault::from(fault))),
+    };
+    match &command.folder {
+        None => without_folder(obey(alloc, &command, shelf, port, err)),
+        Some(choice) => obey_in(alloc, &command, choice, shelf, folders, port, err),
     }
 }
 
-// Does what the command asks for, and returns the status.
+// Does what a command asks for that chooses no folder, and returns the status.
 fn obey<S: Shelf, P: Port, E: Sink>(
     alloc: Global,
     command: &LiveCommand<'_>,
@@ -89,12 +107,12 @@ fn obey<S: Shelf, P: Port, E: Sink>(
     match run(alloc, command, shelf, port, err) {
         Ok(()) => 0,
         Err(Failure::Halted(Halt::BadLine)) => 1,
-        Err(Failure::Halted(Halt::ReadFault)) => report(err, &Fault::ReadFault("-")),
-        Err(Failure::Halted(Halt::WriteFault)) => report(err, &Fault::WriteFault),
-        Err(Failure::Halted(Halt::OutOfMemory)) => report(err, &Fault::OutOfMemory),
-        Err(Failure::Unbegun(fault)) => report(err, &fault),
-        Err(Failure::Unsaved(name)) => report(err, &Fault::SaveFault(name)),
-        Err(Failure::Unmade) => report(err, &Fault::OutOfMemory),
+        Err(Failure::Halted(Halt::ReadFault)) => report_fault(err, &Fault::ReadFault("-")),
+        Err(Failure::Halted(Halt::WriteFault)) => report_fault(err, &Fault::WriteFault),
+        Err(Failure::Halted(Halt::OutOfMemory)) => report_fault(err, &Fault::OutOfMemory),
+        Err(Failure::Unbegun(fault)) => report_fault(err, &fault),
+        Err(Failure::Unsaved(name)) => report_fault(err, &Fault::SaveFault(name)),
+        Err(Failure::Unmade) => report_fault(err, &Fault::OutOfMemory),
     }
 }
 
@@ -143,15 +161,4 @@ fn keep_for(file: &Option<String>) -> Keep
         None => Keep::Nothing,
         Some(_) => Keep::State,
     }
-}
-
-// Reports a fault, and returns its status.
-fn report<E: Sink>(err: &mut E, fault: &Fault<'_>) -> u8
-    requires { (n : ℕ) → E.takes err.old n }
-    ensures status { result ≡ status_of (report_of fault.now) }
-    ensures line { Reported E.tells E.written E.faults err.old err.new (line_of (report_of fault.now)) }
-{
-    // A fault of the sink changes nothing.
-    let _ = fault.put(err);
-    fault.status()
 }

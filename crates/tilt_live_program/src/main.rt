@@ -1,4 +1,5 @@
-//! The program `tilt-live`: it hands its arguments with the files of the disk and the standard streams to the one call that does the work.
+//! The program `tilt-live`: it hands its arguments, with the files and folders of the disk and the standard streams, to the one call that
+//! does the work.
 //!
 //! A read from standard input returns what there is and doesn't wait for more, so a line is answered as soon as it has come.
 #![tactic(auto)]
@@ -9,6 +10,7 @@ use std::{env, io};
 use tilt_live_app::live;
 use tilt_outside::{DiskShelf, StdSink};
 use tilt_port::StdPort;
+use tilt_store::DiskFolders;
 
 /// The status if the program doesn't get its arguments: one of them isn't UTF-8, or there is no memory for them.
 const NO_ARGUMENTS: u8 = 7;
@@ -25,10 +27,20 @@ fn main(rt: HostRuntime) -> ExitCode {
 
 // Does what the arguments say.
 fn status(rt: &HostRuntime, words: &[String]) -> Result<u8, OutOfMemory> {
-    let mut shelf = DiskShelf::new(rt.alloc(), rt, process::id(rt.process()));
+    let program = process::id(rt.process());
+    let mut shelf = DiskShelf::new(rt.alloc(), rt, program);
+    let mut folders = DiskFolders::new(rt, program);
     let mut port = StdPort::new(rt.alloc(), rt.stdin(), rt.stdout())?;
     let mut err = StdSink::new(rt.stderr());
-    Ok(live(rt.alloc(), words, &mut shelf, &mut port, &mut err))
+    let lived = live(
+        rt.alloc(),
+        words,
+        &mut shelf,
+        &mut folders,
+        &mut port,
+        &mut err,
+    );
+    Ok(lived.status)
 }
 
 // The arguments after the program's name.

@@ -1,7 +1,7 @@
 use Rattle.std.proofs.Common.{◌≡◌, ◌==◌, rules, length, refl, sym, ◌∙◌}
 use Rattle.tilt_cli.specs.Arguments.{arguments_of}
 use Rattle.tilt_cli.specs.Command.{texts}
-use Rattle.tilt_live_app.proofs.OneCommand.{front_texts, only_said, some_binds, with_binds}
+use Rattle.tilt_live_app.proofs.OneCommand.{front_texts, only_said, some_binds, with_binds, with_unfit}
 use Rattle.tilt_live_app.proofs.arguments.read_command.Goals as goal
 
 pub returns-then-not-is_empty-clause-is : goal.returns-then-not-is_empty-clause-is
@@ -13,10 +13,17 @@ returns-then-not-is_empty-clause-is c =
     λ usage. with_binds _ query (texts c.in-Some.rest.now) front (arguments_of c.in_ok-given.given) c.in_ok-given.ensures
     (some_binds binds (sym empty ∙ c.if-not-is_empty.true))
 
+pub returns-then-not-options_fit-clause-is : goal.returns-then-not-options_fit-clause-is
+returns-then-not-options_fit-clause-is c =
+    let query = c.as_str-query.result.now in
+    let front = front_texts c.args.words.now c.in-Some.first.now c.in-Some.rest.now query c.in-Some.ensures.cases.0 c.as_str-query.ensures.value in
+    λ usage. with_unfit _ query (texts c.in-Some.rest.now) front (arguments_of c.in_ok-given.given) c.in_ok-given.ensures
+    (sym c.options_fit.ensures ∙ c.if-not-options_fit.true)
+
 pub returns-clause-only : goal.returns-clause-only
 returns-clause-only c =
     let query = c.as_str-query.result.now in
     let front = front_texts c.args.words.now c.in-Some.first.now c.in-Some.rest.now query c.in-Some.ensures.cases.0 c.as_str-query.ensures.value in
     only_said _ query (texts c.in-Some.rest.now) front (arguments_of c.in_ok-given.given) c.in_ok-given.ensures _ refl c.has-plain.ensures
-    c.run_options-options.ensures
-    c.state_files-resume.ensures.resume c.state_files-resume.ensures.save
+    c.run_options-options.ensures c.take_files-files.ensures.resume c.take_files-files.ensures.save
+    (rw (c.task_asked-task.ensures, c.take_files-files.ensures.folder) at c.choose.ensures)

@@ -1,24 +1,20 @@
-use Rattle.std.proofs.Common.{refl}
-use Rattle.tilt_live_app.proofs.Ending.{unsaving, words-lived}
-use Rattle.tilt_live_app.specs.Arguments.{command_value}
-use Rattle.tilt_live_app.specs.Lived.{done}
+use Rattle.std.proofs.Common.{◌∙◌, ap, refl}
+use Rattle.std.specs.Prelude.{option_map}
+use Rattle.tilt_live_app.proofs.Ending.{words-lived}
+use Rattle.tilt_live_app.specs.Arguments.{choice_value, command_value}
+use Rattle.tilt_live_app.specs.Lived.{done, done_in}
 use Rattle.tilt_live_app.proofs.command.live.Goals as goal
-
-pub obey-requires-clause-lent : goal.obey-requires-clause-lent
-obey-requires-clause-lent g c = c.requires.lent (command_value c.in-Ok.command) c.in-Ok.ensures.is
-
-pub obey-requires-clause-state_lent : goal.obey-requires-clause-state_lent
-obey-requires-clause-state_lent g c = λ file is. c.requires.state_lent (command_value c.in-Ok.command) file c.in-Ok.ensures.is is
-
-pub obey-requires-clause-saves : goal.obey-requires-clause-saves
-obey-requires-clause-saves g c = λ file n is. c.requires.saves (command_value c.in-Ok.command) file n c.in-Ok.ensures.is is
-
-pub returns-in-Ok-clause-is : goal.returns-in-Ok-clause-is
-returns-in-Ok-clause-is g c = done (command_value c.in-Ok.command) c.in-Ok.ensures.is c.obey.ensures.is
-
-pub returns-in-Ok-clause-unsaved : goal.returns-in-Ok-clause-unsaved
-returns-in-Ok-clause-unsaved g c = λ none. c.obey.ensures.unsaved (unsaving _ (command_value c.in-Ok.command) c.in-Ok.ensures.is none)
 
 pub returns-in-Err-clause-is : goal.returns-in-Err-clause-is
 returns-in-Err-clause-is g c =
-    rw c.report.ensures.status (rw c.from.ensures (words-lived _ _ _ _ _ _ _ _ _ _ c.in-Err.fault c.in-Err.ensures.is refl (rw c.from.ensures at c.report.ensures.line)))
+    rw (c.without_folder.ensures.status ∙ c.report_fault.ensures.status, c.without_folder.ensures.folder)
+    (rw c.from.ensures (words-lived _ _ _ _ _ _ _ _ _ _ _ _ c.in-Err.fault c.in-Err.ensures.is refl (rw c.from.ensures at c.report_fault.ensures.line)))
+
+pub returns-in-None-clause-is : goal.returns-in-None-clause-is
+returns-in-None-clause-is g c =
+    rw (c.without_folder-in-None.ensures.status, c.without_folder-in-None.ensures.folder)
+    (done (command_value c.in-Ok.command) c.in-Ok.ensures.is (ap (option_map choice_value) c.in-None.is) c.obey.ensures.is)
+
+pub returns-clause-is : goal.returns-clause-is
+returns-clause-is g c =
+    done_in (command_value c.in-Ok.command) (choice_value c.in-Some.choice) c.in-Ok.ensures.is (ap (option_map choice_value) c.in-Some.is) c.obey_in.ensures.is

@@ -1,5 +1,5 @@
-use Rattle.std.proofs.Common.{refl, Ok, Err}
-use Rattle.tilt_live_app.specs.Lived.{halted, unbegun, unmade, unsaved, whole}
+use Rattle.std.proofs.Common.{refl}
+use Rattle.tilt_live_app.specs.Done.{halted, unbegun, unmade, unsaved, whole}
 use Rattle.tilt_live_app.specs.declared.failure.Halt.TheVariants as halt
 use Rattle.tilt_live_run.proofs.Reporting.{reported-none}
 use Rattle.tilt_live_app.proofs.command.obey.Goals as goal
@@ -20,26 +20,26 @@ returns-in-Err-Halted-BadLine-clause-rest g c = λ _ _. (rw c.in-Err-Halted-BadL
 
 pub returns-in-Err-Halted-ReadFault-clause-is : goal.returns-in-Err-Halted-ReadFault-clause-is
 returns-in-Err-Halted-ReadFault-clause-is g c =
-    rw c.report.ensures.status (halted halt.ReadFault c.run.new.err
-    (rw (c.in-Err-Halted-ReadFault.field-0-is, c.in-Err-Halted-ReadFault.field-0-0-is) at c.in-Err-Halted-ReadFault.ensures.is) c.report.ensures.line)
+    rw c.report_fault.ensures.status (halted halt.ReadFault c.run.new.err
+    (rw (c.in-Err-Halted-ReadFault.field-0-is, c.in-Err-Halted-ReadFault.field-0-0-is) at c.in-Err-Halted-ReadFault.ensures.is) c.report_fault.ensures.line)
 
 pub returns-in-Err-Halted-ReadFault-clause-rest : goal.returns-in-Err-Halted-ReadFault-clause-rest
 returns-in-Err-Halted-ReadFault-clause-rest g c = λ _ _. (rw c.in-Err-Halted-ReadFault.field-0-is at c.in-Err-Halted-ReadFault.ensures.rest) (λ e. e)
 
 pub returns-in-Err-Halted-WriteFault-clause-is : goal.returns-in-Err-Halted-WriteFault-clause-is
 returns-in-Err-Halted-WriteFault-clause-is g c =
-    rw c.report-in-Err-Halted-WriteFault.ensures.status (halted halt.WriteFault c.run.new.err
+    rw c.report_fault-in-Err-Halted-WriteFault.ensures.status (halted halt.WriteFault c.run.new.err
     (rw (c.in-Err-Halted-WriteFault.field-0-is, c.in-Err-Halted-WriteFault.field-0-0-is) at c.in-Err-Halted-WriteFault.ensures.is)
-    c.report-in-Err-Halted-WriteFault.ensures.line)
+    c.report_fault-in-Err-Halted-WriteFault.ensures.line)
 
 pub returns-in-Err-Halted-WriteFault-clause-rest : goal.returns-in-Err-Halted-WriteFault-clause-rest
 returns-in-Err-Halted-WriteFault-clause-rest g c = λ _ _. (rw c.in-Err-Halted-WriteFault.field-0-is at c.in-Err-Halted-WriteFault.ensures.rest) (λ e. e)
 
 pub returns-in-Err-Halted-OutOfMemory-clause-is : goal.returns-in-Err-Halted-OutOfMemory-clause-is
 returns-in-Err-Halted-OutOfMemory-clause-is g c =
-    rw c.report-in-Err-Halted-OutOfMemory.ensures.status (halted halt.OutOfMemory c.run.new.err
+    rw c.report_fault-in-Err-Halted-OutOfMemory.ensures.status (halted halt.OutOfMemory c.run.new.err
     (rw (c.in-Err-Halted-OutOfMemory.field-0-is, c.in-Err-Halted-OutOfMemory.field-0-0-is) at c.in-Err-Halted-OutOfMemory.ensures.is)
-    c.report-in-Err-Halted-OutOfMemory.ensures.line)
+    c.report_fault-in-Err-Halted-OutOfMemory.ensures.line)
 
 pub returns-in-Err-Halted-OutOfMemory-clause-rest : goal.returns-in-Err-Halted-OutOfMemory-clause-rest
 returns-in-Err-Halted-OutOfMemory-clause-rest g c = λ _ _. (rw c.in-Err-Halted-OutOfMemory.field-0-is at c.in-Err-Halted-OutOfMemory.ensures.rest) (λ e. e)
@@ -47,7 +47,7 @@ returns-in-Err-Halted-OutOfMemory-clause-rest g c = λ _ _. (rw c.in-Err-Halted-
 pub returns-in-Err-Unbegun-clause-is : goal.returns-in-Err-Unbegun-clause-is
 returns-in-Err-Unbegun-clause-is g c =
     let ran = rw (c.in-Err-Unbegun.field-0-is, c.in-Err-Unbegun.fault-is) at c.in-Err-Unbegun.ensures.is in
-    rw c.report-in-Err-Unbegun.ensures.status (unbegun ran.0 ran.1 (rw ran.2 at c.report-in-Err-Unbegun.ensures.line))
+    rw c.report_fault-in-Err-Unbegun.ensures.status (unbegun ran.0 ran.1 (rw ran.2 at c.report_fault-in-Err-Unbegun.ensures.line))
 
 pub returns-in-Err-Unbegun-clause-rest : goal.returns-in-Err-Unbegun-clause-rest
 returns-in-Err-Unbegun-clause-rest g c = λ _ _. (rw c.in-Err-Unbegun.field-0-is at c.in-Err-Unbegun.ensures.rest) (λ e. e)
@@ -55,15 +55,15 @@ returns-in-Err-Unbegun-clause-rest g c = λ _ _. (rw c.in-Err-Unbegun.field-0-is
 pub returns-in-Err-Unsaved-clause-is : goal.returns-in-Err-Unsaved-clause-is
 returns-in-Err-Unsaved-clause-is g c =
     let ran = rw c.in-Err-Unsaved.field-0-is at c.in-Err-Unsaved.ensures.is in
-    rw c.report-in-Err-Unsaved.ensures.status (unsaved ran.0 _ c.run.new.err ran.1 ran.2 c.report-in-Err-Unsaved.ensures.line)
+    rw c.report_fault-in-Err-Unsaved.ensures.status (unsaved ran.0 _ c.run.new.err ran.1 ran.2 c.report_fault-in-Err-Unsaved.ensures.line)
 
 pub returns-in-Err-Unsaved-clause-rest : goal.returns-in-Err-Unsaved-clause-rest
-returns-in-Err-Unsaved-clause-rest g c = λ _ other. absurd (other c.report-in-Err-Unsaved.ensures.status)
+returns-in-Err-Unsaved-clause-rest g c = λ _ other. absurd (other c.report_fault-in-Err-Unsaved.ensures.status)
 
 pub returns-in-Err-Unmade-clause-is : goal.returns-in-Err-Unmade-clause-is
 returns-in-Err-Unmade-clause-is g c =
     let ran = rw c.in-Err-Unmade.field-0-is at c.in-Err-Unmade.ensures.is in
-    rw c.report-in-Err-Unmade.ensures.status (unmade ran.0 c.run.new.err ran.1 ran.2 c.report-in-Err-Unmade.ensures.line)
+    rw c.report_fault-in-Err-Unmade.ensures.status (unmade ran.0 c.run.new.err ran.1 ran.2 c.report_fault-in-Err-Unmade.ensures.line)
 
 pub returns-in-Err-Unmade-clause-rest : goal.returns-in-Err-Unmade-clause-rest
 returns-in-Err-Unmade-clause-rest g c = λ _ _. (rw c.in-Err-Unmade.field-0-is at c.in-Err-Unmade.ensures.rest) (λ e. e)
