@@ -28,7 +28,7 @@ import subprocess
 import sys
 import tempfile
 from functools import partial
-from typing import Callable, Iterator, Sequence
+from typing import IO, Callable, Iterator, Sequence
 
 sys.path.insert(0, os.path.dirname(os.path.dirname(os.path.dirname(os.path.realpath(__file__)))))
 
@@ -120,14 +120,9 @@ def run(words: Sequence[str], lines: Sequence[str], options: Sequence[str], stat
         put_file(folder, "q", QUERY)
         if state is not None:
             put_file(folder, STATE, state)
-        source, sink = os.pipe2(os.O_DIRECT)
-        fcntl.fcntl(sink, fcntl.F_SETPIPE_SZ, 4096 * (len(lines) + 1))
-        for line in lines:
-            os.write(sink, line.encode())
-        os.close(sink)
         trace = os.path.join(folder, "trace")
         traced = ["strace", "-f", "-qq", "-y", "-o", trace, *options, "--", *words]
-        with open(source, "rb") as feed:
+        with feed_of(lines) as feed:
             process = subprocess.Popen(traced, cwd=folder, stdin=feed, stdout=subprocess.PIPE, stderr=subprocess.PIPE, text=True)
             try:
                 out, err = process.communicate(timeout=SECONDS)
@@ -136,6 +131,16 @@ def run(words: Sequence[str], lines: Sequence[str], options: Sequence[str], stat
                 return End(None, "", "", "")
         beside = tuple(sorted(set(os.listdir(folder)) - {"q", STATE, "trace"}))
         return End(process.returncode, out, err, text_in(folder, "trace") or "", text_in(folder, STATE), beside)
+
+
+def feed_of(packets: Sequence[str]) -> IO[bytes]:
+    """A pipe from which each packet is read by a read of its own."""
+    source, sink = os.pipe2(os.O_DIRECT)
+    fcntl.fcntl(sink, fcntl.F_SETPIPE_SZ, 4096 * (len(packets) + 1))
+    for packet in packets:
+        os.write(sink, packet.encode())
+    os.close(sink)
+    return open(source, "rb")
 
 
 def put_file(folder: str, name: str, text: str) -> None:
@@ -163,11 +168,14 @@ def part_of(name: str, rest: str) -> str:
     return next((part for start, part in parts.items() if name in READS + WRITES and rest.startswith(start)), "")
 
 
+def first_own(numbered: Numbered) -> int:
+    """The place of the program's own first call, which opens the query."""
+    return next(at for at, (name, _, rest) in enumerate(numbered) if part_of(name, rest) == "query")
+
+
 def own_calls(numbered: Numbered) -> Iterator[Call]:
-    """The calls of the program itself, from the first one that opens the query on."""
-    first = next(at for at, (name, _, rest) in enumerate(numbered) if part_of(name, rest) == "query")
     lines = 0
-    for name, count, rest in numbered[first:]:
+    for name, count, rest in numbered[first_own(numbered) :]:
         part = part_of(name, rest)
         yield Call(name, count, part, lines)
         lines += part == "feed" and not rest.endswith(" = 0")
@@ -278,13 +286,13 @@ def try_no_memory(clean: Clean, counts: dict[str, int], tally: Tally) -> None:
     tally.expect(good, f"{clean.words[1:]}: no memory from {counts} on: {shown((end.status, end.out, end.err))}, {wrong_files(clean, end)}")
 
 
-def demands_of(clean: Clean) -> Iterator[dict[str, int]]:
-    """For each call of the program itself that asks for memory: which call of each kind is the next one there."""
-    first = own = next(at for at, (name, _, rest) in enumerate(clean.numbered) if part_of(name, rest) == "query")
-    while first > 0 and clean.numbered[first - 1][0] in BEGINNING:
+def demands_of(numbered: Numbered, own: int) -> Iterator[dict[str, int]]:
+    """For each call from the program's own first one on that asks for memory: which call of each kind is the next one there."""
+    first = own
+    while first > 0 and numbered[first - 1][0] in BEGINNING:
         first -= 1
-    counts = {name: 1 + sum(other == name for other, _, _ in clean.numbered[:first]) for name in MEMORY}
-    for at, (name, _, _) in enumerate(clean.numbered[first:], first):
+    counts = {name: 1 + sum(other == name for other, _, _ in numbered[:first]) for name in MEMORY}
+    for at, (name, _, _) in enumerate(numbered[first:], first):
         if name in MEMORY:
             if at >= own:
                 yield dict(counts)
@@ -292,7 +300,7 @@ def demands_of(clean: Clean) -> Iterator[dict[str, int]]:
 
 
 def trials_of(clean: Clean, tally: Tally) -> Iterator[Callable[[], None]]:
-    for counts in demands_of(clean):
+    for counts in demands_of(clean.numbered, first_own(clean.numbered)):
         yield partial(try_no_memory, clean, counts, tally)
     for call in clean.calls:
         if call.name == "exit_group":
