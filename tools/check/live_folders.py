@@ -62,6 +62,26 @@ OF_OTHER_QUERY = "58 state of another query"
 OF_OTHER_OPTIONS = "59 state of other options"
 
 
+USAGE = b"tilt: 1 usage\n"
+BAD_ARGUMENTS = [
+    "--every 1",
+    "--from 0",
+    "--position",
+    "--folder",
+    "--folder kept --folder kept",
+    "--folder kept --resume state",
+    "--folder kept --save state",
+    "--folder kept --position --every 1",
+    "--folder kept --position --from 0",
+    "--folder kept --position --position",
+    "--folder kept --every",
+    "--folder kept --every -1",
+    "--folder kept --from x",
+    "--folder kept --every 8000000000000000001",
+    "--folder kept --from 8000000000000000001",
+]
+
+
 class Start:
     """A call of the program whose feed comes through a pipe, until it ends or is killed."""
 
@@ -129,13 +149,17 @@ def commit_of(state: bytes) -> Commit:
     return Commit(int(first), counts["bytes"], counts["lines"], text[end:], counts["written"], True)
 
 
+def content(path: str) -> bytes:
+    """What a file has, if it is there."""
+    with contextlib.suppress(FileNotFoundError), open(path, "rb") as file:
+        return file.read()
+    return b""
+
+
 def files_in(folder: str) -> dict[str, bytes]:
-    """What the files of a folder have, if it is there."""
-    found = {}
-    for name in os.listdir(folder) if os.path.isdir(folder) else []:
-        with open(os.path.join(folder, name), "rb") as file:
-            found[name] = file.read()
-    return found
+    """What the files of a folder have, if it is there, while no program runs."""
+    names = os.listdir(folder) if os.path.isdir(folder) else []
+    return {name: content(os.path.join(folder, name)) for name in names}
 
 
 @dataclasses.dataclass(frozen=True)
@@ -242,7 +266,7 @@ class Served:
         return None
 
     def commit_there(self) -> Commit:
-        return commit_of(files_in(self.folder).get("state", b""))
+        return commit_of(content(os.path.join(self.folder, "state")))
 
     def wrong_end(self, plan: Plan, came: Came) -> str | None:
         """What is wrong with how a start ended, or None."""
@@ -307,7 +331,7 @@ class Served:
             wrong = wrong or self.wrong_rejection(OF_OTHER_QUERY, *more, feed=self.feed, query=OTHER_QUERY)
             other = dataclasses.replace(self.options, watermarking=watermarking)
             wrong = wrong or self.wrong_rejection(OF_OTHER_OPTIONS, *more, feed=self.feed, options=other)
-        return wrong or self.wrong_if_spoiled(draw)
+        return wrong or self.wrong_if_spoiled(draw) or self.wrong_if_shorter(draw)
 
     def wrong_if_spoiled(self, draw: random.Random) -> str | None:
         """What is wrong with what is done with files that no crash leaves, or None. The files are restored."""
@@ -318,7 +342,7 @@ class Served:
         spoiled: list[tuple[str, dict[str, bytes]]] = [(NO_STATE, {"output.csv": output}), (NO_STATE, {"state": b"", "output.csv": output})]
         if self.commit.length:
             spoiled.append((CUT_OUTPUT, {"state": state, "output.csv": output[: draw.randrange(self.commit.length)]}))
-        # Bytes of a line that has begun can't be missed.
+        # Behind this are the bytes of the line that has begun.
         if 0 < count < len(state) - len(self.commit.rest):
             spoiled.append((BAD_STATE, {"state": cut_state, "output.csv": output}))
         line, there = draw.choice(spoiled)
@@ -326,6 +350,17 @@ class Served:
         wrong = self.wrong_rejection(line, *draw.choice(WAYS[:2]), feed=self.feed)
         put_files(self.folder, files)
         return wrong and f"with the state {there.get('state')!r}, {wrong}"
+
+    def wrong_if_shorter(self, draw: random.Random) -> str | None:
+        """What is wrong with the position if the state lacks bytes of the line that has begun, or None: it is an earlier commit."""
+        if not self.commit.rest:
+            return None
+        files, count = files_in(self.folder), draw.randint(1, len(self.commit.rest))
+        put_files(self.folder, {**files, "state": files["state"][:-count]})
+        came = self.call(QUERY_FILE, *itertools.chain(*self.options.words()), "--folder", FOLDER, "--position")
+        put_files(self.folder, files)
+        good = came == Came(0, f"{self.commit.position - count}\n".encode(), b"")
+        return None if good else f"the position of {self.commit} without its last {count} bytes: {came}"
 
 
 def rejected(line: str) -> Came:
@@ -374,6 +409,18 @@ def check_feed(draw: random.Random, served: Served) -> str | None:
     return wrong or (None if sorted(files_in(served.folder)) == FILES else f"it leaves {sorted(files_in(served.folder))}")
 
 
+def check_arguments(program: str, tally: Tally) -> None:
+    """Arguments that don't go together, for which nothing is made, and folders that can't be made."""
+    cases = [(words.split(), Came(2, b"", USAGE)) for words in BAD_ARGUMENTS]
+    cases += [(["--folder", name], Came(6, b"", f"tilt: 6 save fault: {name}\n".encode())) for name in (QUERY_FILE, "no/folder")]
+    for words, wanted in cases:
+        with tempfile.TemporaryDirectory(dir=memory()) as place:
+            with open(os.path.join(place, QUERY_FILE), "w", encoding="ascii") as file:
+                file.write("input x;\nemit x over (0, 5];\n")
+            came, names = run([program, QUERY_FILE, *words], place, b"x,0,1,2\n"), os.listdir(place)
+        tally.expect(came == wanted and names == [QUERY_FILE], f"{' '.join(words)}: expected {wanted}came {came}and {names}")
+
+
 def check_query(draw: random.Random, program: str, tally: Tally) -> int:
     """Serves some feeds of a query, and gives how often the program was called."""
     # At times all times lie at an end of time.
@@ -406,6 +453,7 @@ def main(arguments: Sequence[str]) -> int:
     if not os.access(program, os.X_OK):
         tally.expect(False, f"{program} isn't built")
         return tally.end()
+    check_arguments(program, tally)
     tried = 0
     for _ in range(chosen.queries):
         if tally.failed < MOST_FAILED:

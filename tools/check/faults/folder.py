@@ -49,7 +49,7 @@ CASES = [
     Case([], LINES, 1000),
     Case(["--lateness", "3", "--idle", "30"], PIECES, 1, before=2, torn="4,1"),
     Case(["--begun"], PIECES, 3, before=1),
-    Case(["--strict"], LINES[4:], 1000, before=2),
+    Case(["--plain"], LINES, 1000, before=5, torn="20"),
 ]
 # What must be reported if it fails. The other calls may fail without effect, since what they do is done for good measure.
 STRICT = READS + WRITES + OPENS + RENAMES + ["mkdir", "flock", "ftruncate", "fsync"]
