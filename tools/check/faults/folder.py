@@ -13,7 +13,8 @@ new one, or one that has a commit of the first packets. What has to be left is t
 - The same command over the whole feed then ends with status 0 and exactly the whole output, as does one with `--from` and that position
   over the rest of the feed. Both report the lines after the commit, and leave no file beside those of the folder.
 
-The same holds if no file may be longer than so many bytes, and on a device that is full.
+The same holds if no file may be longer than so many bytes, and on a device that is full. Reads of one byte and writes that take one change
+nothing.
 
 Without strace, or if tracing isn't allowed, the cases under strace are left out. The last line is 'N passed, M failed', and the status is
 1 if one failed."""
@@ -25,6 +26,7 @@ import dataclasses
 import os
 import signal
 import sys
+import tempfile
 from functools import partial
 from typing import Callable, Iterator
 
@@ -34,7 +36,8 @@ from check.faults.calls import AGAIN, FAILING, MEMORY, OPENS, READS, RENAMES, WR
 from check.faults.full import short_files, try_full_device
 from check.faults.live import LINES, demands_of, first_own
 from check.faults.run import missing, no_tracing
-from check.faults.served import FOLDER, QUERY_FILE, Case, Clean, End, Place, clean_of, serve, shown, wrong_after
+from check.faults.served import FILES, FOLDER, QUERY_FILE, Case, Clean, End, Place, clean_of, files_in, serve, shown, wrong_after
+from check.faults.single_bytes import one_byte_library
 from shared.packages import install
 from shared.program import build_program, built_program
 from shared.tally import Tally
@@ -167,6 +170,20 @@ def try_no_memory(clean: Clean, counts: dict[str, int], tally: Tally) -> None:
     tally.expect(wrong is None, f"{clean.case}: no memory from {counts} on: {wrong}")
 
 
+def try_single_bytes(clean: Clean, library: str, tally: Tally) -> None:
+    """Each read of the feed gives one byte, and each write takes one."""
+    with Place(clean) as top:
+        end = serve(top, clean.words, list(clean.case.text(0)), ["-e", "trace=write"], ["env", f"LD_PRELOAD={library}"])
+        writes = [line for line in end.trace.splitlines() if f"/{FOLDER}/" in line.partition(",")[0]]
+        files = files_in(os.path.join(top, FOLDER))
+    if any(not line.endswith(" = 1") for line in writes):
+        tally.left_out.append(f"{clean.case}: writes that take one byte: the library isn't used")
+        return
+    good = (end.status, end.out, end.err) == (0, "", clean.reports()) and sorted(files) == FILES
+    good = good and files["output.csv"] == clean.out[-1] and files["state"] == clean.state and len(writes) >= len(clean.state)
+    tally.expect(good, f"{clean.case}: reads and writes of one byte: {shown(end)}, {files}")
+
+
 def faults_of(call: Call) -> Iterator[str]:
     """The errors of a call that are tried."""
     if call.name in FAILING or call.name in STRICT:
@@ -203,15 +220,20 @@ def main() -> int:
     why_not = no_tracing()
     if why_not is not None:
         tally.left_out.append(f"all faults of tilt-live with a folder: {why_not}")
-    trials: list[Callable[[], None]] = [partial(try_full_device, program, tally)]
-    for case in CASES:
-        clean = clean_of(program, case, why_not is None, tally)
-        if clean is not None:
-            trials += trials_of(clean, tally) if why_not is None else []
-            trials += short_files(clean, tally)
-    with concurrent.futures.ThreadPoolExecutor(given.jobs) as pool:
-        for done in [pool.submit(trial) for trial in trials]:
-            done.result()
+    with tempfile.TemporaryDirectory(prefix="faults.") as folder:
+        library = one_byte_library(folder) if why_not is None else None
+        if why_not is None and library is None:
+            tally.left_out.append("writes of tilt-live that take one byte: there is no C compiler")
+        trials: list[Callable[[], None]] = [partial(try_full_device, program, tally)]
+        for case in CASES:
+            clean = clean_of(program, case, why_not is None, tally)
+            if clean is not None:
+                trials += trials_of(clean, tally) if why_not is None else []
+                trials += short_files(clean, tally)
+                trials += [partial(try_single_bytes, clean, library, tally)] if library is not None else []
+        with concurrent.futures.ThreadPoolExecutor(given.jobs) as pool:
+            for done in [pool.submit(trial) for trial in trials]:
+                done.result()
     return tally.end()
 
 
