@@ -24,6 +24,7 @@ import argparse
 import concurrent.futures
 import dataclasses
 import os
+import re
 import signal
 import sys
 import tempfile
@@ -32,7 +33,7 @@ from typing import Callable, Iterator
 
 sys.path.insert(0, os.path.dirname(os.path.dirname(os.path.dirname(os.path.realpath(__file__)))))
 
-from check.faults.calls import AGAIN, FAILING, MEMORY, OPENS, READS, RENAMES, WRITES, Numbered, numbered_calls
+from check.faults.calls import AGAIN, FAILING, MEMORY, OPENS, READS, RENAMES, SYNCS, WRITES, Numbered, numbered_calls
 from check.faults.full import short_files, try_full_device
 from check.faults.live import LINES, demands_of, first_own
 from check.faults.run import missing, no_tracing
@@ -58,6 +59,7 @@ CASES = [
 STRICT = READS + WRITES + OPENS + RENAMES + ["mkdir", "flock", "ftruncate", "fsync"]
 # What is tried again if it is interrupted.
 RETRIED = AGAIN + ["ftruncate"]
+STATE_ENTRY, OUTPUT_ENTRY = "the name of the state", "the name of the output"
 
 
 @dataclasses.dataclass(frozen=True)
@@ -96,6 +98,27 @@ def own_calls(numbered: Numbered) -> Iterator[Call]:
         yield Call(name, count, part, strict, packets, renames)
         packets += part == "feed" and not rest.endswith(" = 0")
         renames += name in RENAMES
+
+
+def wrong_order(numbered: Numbered) -> str | None:
+    """What could be lost if the power went, or None. Before a state replaces another one, the disk has it, the output and its name in the
+    folder. Before more of the feed is read, the disk has that state under its name."""
+    unsynced: set[str] = set()
+    for name, count, rest in numbered[first_own(numbered) :]:
+        file = re.match(rf"\d+<[^>]*/{FOLDER}(?:/([^>]*))?>", rest)
+        if part_of(name, rest) == "feed" and STATE_ENTRY in unsynced:
+            return f"at read {count} the disk may lack {unsynced}"
+        if name in RENAMES:
+            if unsynced:
+                return f"at rename {count} the disk may lack {unsynced}"
+            unsynced.add(STATE_ENTRY)
+        elif name in OPENS and "O_CREAT" in rest and f'"{FOLDER}/output.csv"' in rest:
+            unsynced.add(OUTPUT_ENTRY)
+        elif file and name in [*WRITES, "ftruncate"]:
+            unsynced.add(file[1])
+        elif file and name in SYNCS:
+            unsynced -= {file[1]} if file[1] else {STATE_ENTRY, OUTPUT_ENTRY}
+    return f"at the end the disk may lack {unsynced}" if unsynced else None
 
 
 # What has to be left.
@@ -199,6 +222,8 @@ def trials_of(clean: Clean, tally: Tally) -> Iterator[Callable[[], None]]:
     calls = list(own_calls(trace))
     renames = sum(call.name in RENAMES for call in calls)
     tally.expect(renames == len(clean.commits) - 1, f"{clean.case}: {renames} commits, expected {clean.commits}")
+    wrong = wrong_order(trace)
+    tally.expect(wrong is None, f"{clean.case}: {wrong}")
     for counts in demands_of(trace, first_own(trace)):
         yield partial(try_no_memory, clean, counts, tally)
     for call in calls:
