@@ -16,26 +16,24 @@ difference are printed, and the check stops after 20 of them. The last line is '
 from __future__ import annotations
 
 import argparse
-import contextlib
 import dataclasses
 import itertools
 import os
 import random
-import select
 import signal
-import subprocess
 import sys
 import tempfile
 import time
-from typing import IO, Sequence
+from typing import Sequence
 
 sys.path.insert(0, os.path.dirname(os.path.dirname(os.path.realpath(__file__))))
 
 from check.faults.served import memory
 from check.feeds import T, Query, query_of
+from check.folders import Commit, Start, commit_of, content, files_in, put_files
 from check.live import MOST_FAILED, NO_END_OF_LINE, SECONDS, Expected, Options, disordered, expected_of, random_options, random_pieces
 from check.live import random_text, shown
-from check.live_sessions import Came, counts_of, run
+from check.live_sessions import Came, run
 from check.random_feeds import random_feed, random_query
 from shared.program import built_program
 from shared.tally import Tally
@@ -80,86 +78,6 @@ BAD_ARGUMENTS = [
     "--folder kept --every 8000000000000000001",
     "--folder kept --from 8000000000000000001",
 ]
-
-
-class Start:
-    """A call of the program whose feed comes through a pipe, until it ends or is killed."""
-
-    def __init__(self, words: Sequence[str], place: str) -> None:
-        self.files = [tempfile.TemporaryFile(), tempfile.TemporaryFile()]
-        self.process = subprocess.Popen(words, cwd=place, stdin=subprocess.PIPE, stdout=self.files[0], stderr=self.files[1], bufsize=0)
-        assert self.process.stdin
-        self.input = self.process.stdin
-        os.set_blocking(self.input.fileno(), False)
-
-    def send(self, piece: bytes) -> None:
-        """Sends a piece. A program that has ended takes none."""
-        rest = memoryview(piece)
-        with contextlib.suppress(BrokenPipeError):
-            while rest and select.select([], [self.input], [], SECONDS)[1]:
-                rest = rest[os.write(self.input.fileno(), rest) :]
-
-    def end(self, killed: bool) -> Came:
-        """Kills the program or ends its feed, and waits for it."""
-        if killed:
-            self.process.kill()
-        self.input.close()
-        status: int | None = None
-        with contextlib.suppress(subprocess.TimeoutExpired):
-            status = self.process.wait(SECONDS)
-        if status is None:
-            self.process.kill()
-            self.process.wait()
-        out, err = map(read_all, self.files)
-        return Came(status, out, err)
-
-
-def read_all(file: IO[bytes]) -> bytes:
-    with file:
-        file.seek(0)
-        return file.read()
-
-
-# What a folder has
-
-
-@dataclasses.dataclass(frozen=True)
-class Commit:
-    """What the state of a folder says: the length of the output, how many bytes and lines of the feed it is of, the bytes of a line that
-    has begun, how much output was written, and whether anything was begun."""
-
-    length: int = 0
-    taken: int = 0
-    lines: int = 0
-    rest: bytes = b""
-    written: int = 0
-    begun: bool = False
-
-    @property
-    def position(self) -> int:
-        return self.taken + len(self.rest)
-
-
-def commit_of(state: bytes) -> Commit:
-    first, _, text = state.partition(b"\n")
-    if not text:
-        return Commit(length=int(first or b"0"))
-    end = text.rfind(b"\n") + 1
-    counts = counts_of(text[:end])
-    return Commit(int(first), counts["bytes"], counts["lines"], text[end:], counts["written"], True)
-
-
-def content(path: str) -> bytes:
-    """What a file has, if it is there."""
-    with contextlib.suppress(FileNotFoundError), open(path, "rb") as file:
-        return file.read()
-    return b""
-
-
-def files_in(folder: str) -> dict[str, bytes]:
-    """What the files of a folder have, if it is there, while no program runs."""
-    names = os.listdir(folder) if os.path.isdir(folder) else []
-    return {name: content(os.path.join(folder, name)) for name in names}
 
 
 @dataclasses.dataclass(frozen=True)
@@ -315,7 +233,8 @@ class Served:
         after = files_in(self.folder)
         if came == rejected(line) and after == before:
             return None
-        return f"{words} with {query} and {options}: expected {line}, and the files as they are: {sorted(before)}, came {came}{changes(before, after)}"
+        called = f"{words} with {query} and {options}: expected {line}, and the files as they are: {sorted(before)}"
+        return f"{called}, came {came}{changes(before, after)}"
 
     def wrong_rejections(self, draw: random.Random) -> str | None:
         """What is wrong with a call that has to be rejected, or with a folder that was spoiled, or None."""
@@ -371,17 +290,6 @@ def changes(before: dict[str, bytes], after: dict[str, bytes]) -> str:
     return "".join(f"{name} is now {after.get(name)!r}\n" for name in {**before, **after} if before.get(name) != after.get(name))
 
 
-def put_files(folder: str, files: dict[str, bytes]) -> None:
-    """Writes the output and the state, or removes those that aren't given."""
-    for name in ("output.csv", "state"):
-        path = os.path.join(folder, name)
-        if name in files:
-            with open(path, "wb") as file:
-                file.write(files[name])
-        elif os.path.exists(path):
-            os.remove(path)
-
-
 # The check
 
 
@@ -432,9 +340,9 @@ def check_query(draw: random.Random, program: str, tally: Tally) -> int:
         options = dataclasses.replace(random_options(draw), strict=False, plain=False)
         feed = random_text(draw, disordered(draw, random_feed(draw, query.inputs, base), options))
         with tempfile.TemporaryDirectory(dir=memory()) as place:
-            for name, content in ((QUERY_FILE, text), (OTHER_QUERY, "input x;\nemit x + 987654321 over (0, 5];\n")):
+            for name, written in ((QUERY_FILE, text), (OTHER_QUERY, "input x;\nemit x + 987654321 over (0, 5];\n")):
                 with open(os.path.join(place, name), "w", encoding="ascii") as file:
-                    file.write(content)
+                    file.write(written)
             served = Served(program, place, query, feed, options)
             wrong = check_feed(draw, served)
             tried += served.tried

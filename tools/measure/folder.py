@@ -5,9 +5,9 @@
 - The latency of a line: from when it is written to the pipe until the file of the output has its row, over LINES lines. The program waits
   for each of them. Without a folder the output goes to a file too.
 
-With `--every 1` each line that is read by itself is committed before the next one is read, so these figures are about the disk of the folder:
-`--in` says where the folders are made. Each line of the table has the best of three runs, and the middle, the 99th percentile and the
-greatest of the latencies of all. It isn't part of the gate: call it by hand on an idle machine. All outputs have to be the same."""
+With `--every 1` each line that is read by itself is committed before the next one is read, so these figures are about the disk of the
+folder: `--in` says where the folders are made. The counts of lines are the best of three runs. The latencies are the middle, the 99th
+percentile and the greatest of all three. It isn't part of the gate: call it by hand on an idle machine. All outputs have to be as expected."""
 from __future__ import annotations
 
 import argparse
