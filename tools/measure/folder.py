@@ -7,7 +7,7 @@
 
 With `--every 1` each line that is read by itself is committed before the next one is read, so these figures are about the disk of the
 folder: `--in` says where the folders are made. The counts of lines are the best of three runs. The latencies are the middle, the 99th
-percentile and the greatest of all three. It isn't part of the gate: call it by hand on an idle machine. All outputs have to be as expected."""
+percentile and the greatest of all three. It isn't part of the gate: call it by hand on an idle machine. Each output has to be right."""
 from __future__ import annotations
 
 import argparse
@@ -81,9 +81,10 @@ class Way:
     def seconds_for_lines(self, lines: int) -> float:
         """Lines that are packets of a pipe: the program reads each by itself, as fast as it goes."""
         source, sink = os.pipe2(os.O_DIRECT)
-        begun = time.monotonic()
         process = self.start(source)
         os.close(source)
+        wait_for(self.output, len(HEAD), process)
+        begun = time.monotonic()
         for tick in range(lines):
             os.write(sink, line_of(tick).encode())
         os.close(sink)

@@ -37,7 +37,21 @@ from check.faults.calls import AGAIN, FAILING, MEMORY, OPENS, READS, RENAMES, SY
 from check.faults.full import short_files, try_full_device
 from check.faults.live import LINES, demands_of, first_own
 from check.faults.run import missing, no_tracing
-from check.faults.served import FILES, FOLDER, QUERY_FILE, Case, Clean, End, Place, clean_of, files_in, serve, shown, wrong_after
+from check.faults.served import (
+    FILES,
+    FOLDER,
+    QUERY_FILE,
+    Case,
+    Clean,
+    End,
+    Place,
+    clean_of,
+    files_in,
+    position_words,
+    serve,
+    shown,
+    wrong_after,
+)
 from check.faults.single_bytes import one_byte_library
 from shared.packages import install
 from shared.program import build_program, built_program
@@ -193,6 +207,38 @@ def try_no_memory(clean: Clean, counts: dict[str, int], tally: Tally) -> None:
     tally.expect(wrong is None, f"{clean.case}: no memory from {counts} on: {wrong}")
 
 
+def try_position(clean: Clean, call: Call, fault: str, tally: Tally) -> None:
+    """A call of `--position` fails, or it is killed there: the commit stays."""
+    printed = f"{clean.position(clean.commits[0])}\n"
+    wanted = [(0, printed, "")]
+    failed = (6, "", f"tilt: 6 save fault: {FOLDER}\n")
+    if call.part == "query" and call.strict:
+        failed = (3, "", f"tilt: 4 read fault: {QUERY_FILE}\n")
+    if call.part == "output":
+        failed = (4, "", "tilt: 5 write fault\n")
+    if fault == "error=EAGAIN":
+        failed = (1, "", f"tilt: 60 folder in use: {FOLDER}\n")
+    if fault != "error=EINTR" or call.name not in RETRIED:
+        wanted = [failed] if call.strict and call.part else [*wanted, failed]
+    with Place(clean) as top:
+        options = ["-e", f"trace={call.name}", "-e", f"inject={call.name}:{fault}:when={call.count}"]
+        end = serve(top, position_words(clean), [], options)
+        killed = fault == "signal=KILL"
+        good = end.status in (-signal.SIGKILL, 128 + signal.SIGKILL) if killed else (end.status, end.out, end.err) in wanted
+        # After a fault of the output it can have a part of the text, or all of it.
+        good = good or call.part == "output" and (end.status, "", end.err) == failed and printed.startswith(end.out)
+        wrong = wrong_after(clean, top, [0], killed) if good else f"wanted one of {wanted}, came {shown(end)}"
+    tally.expect(wrong is None, f"{clean.case}: the position with {fault} at {call}: {wrong}")
+
+
+def position_trials(clean: Clean, tally: Tally) -> Iterator[Callable[[], None]]:
+    with Place(clean) as top:
+        trace = serve(top, position_words(clean), [], ["-e", "trace=all"]).trace
+    for call in own_calls(numbered_calls(trace)):
+        for fault in ["signal=KILL", *(f"error={error}" for error in faults_of(call))]:
+            yield partial(try_position, clean, call, fault, tally)
+
+
 def try_single_bytes(clean: Clean, library: str, tally: Tally) -> None:
     """Each read of the feed gives one byte, and each write takes one."""
     with Place(clean) as top:
@@ -253,7 +299,7 @@ def main() -> int:
         for case in CASES:
             clean = clean_of(program, case, why_not is None, tally)
             if clean is not None:
-                trials += trials_of(clean, tally) if why_not is None else []
+                trials += [*trials_of(clean, tally), *position_trials(clean, tally)] if why_not is None else []
                 trials += short_files(clean, tally)
                 trials += [partial(try_single_bytes, clean, library, tally)] if library is not None else []
         with concurrent.futures.ThreadPoolExecutor(given.jobs) as pool:

@@ -133,6 +133,10 @@ def folder_words(program: str, case: Case, folder: str = FOLDER) -> list[str]:
     return [program, QUERY_FILE, *case.options, "--folder", folder, "--every", str(case.every)]
 
 
+def position_words(clean: Clean) -> list[str]:
+    return [*clean.words[: clean.words.index("--every")], "--position"]
+
+
 def files_in(folder: str) -> dict[str, str]:
     """What the files of a folder have, if it is there."""
     names = sorted(os.listdir(folder)) if os.path.isdir(folder) else []
@@ -200,7 +204,7 @@ def is_commit(clean: Clean, commit: int, files: dict[str, str]) -> bool:
 
 def position_in(clean: Clean, top: str) -> int | None:
     """The position that is printed, or None if it isn't."""
-    end = serve(top, [*clean.words[: clean.words.index("--every")], "--position"], [])
+    end = serve(top, position_words(clean), [])
     return int(end.out) if (end.status, end.err) == (0, "") and end.out == f"{int(end.out or 0)}\n" else None
 
 
