@@ -1,5 +1,5 @@
 -- What opening a folder to serve a feed into it leaves.
-use Rattle.std.specs.Prelude.{◌≡◌, ◌⊎◌, ⊤, ℕ, List, [], Ok}
+use Rattle.std.specs.Prelude.{◌≡◌, ◌<◌, ◌⊎◌, ⊤, ℕ, List, [], length, Ok}
 use Rattle.tilt_exactly_once.specs.Committed.{Holds, IsOf}
 use Rattle.tilt_exactly_once.specs.Serving.{IsUnderway}
 use Rattle.tilt_exactly_once.specs.declared.refusal.Refusal.{Refusal}
@@ -28,19 +28,21 @@ module _ {F M Of : Type 0} (seen : F → Kept) (may_leave : F → Kept → Type 
     pub holds : Holds (commits of) bytes (seen folder)
     pub leaves : LeavesOnly moment left_since first folder (Holds (commits of) bytes)
 
--- why a folder that has committed this state isn't served into, as far as the state is the cause
-abbrev pub IsCauseIn : (List ℕ → Refusal → Type 0) → List ℕ → StartError → Type 0
-IsCauseIn rejects state (start.Unopened error) = ⊥
-IsCauseIn rejects state (start.Unwritten error) = ⊤
-IsCauseIn rejects state start.OutOfMemory = ⊤
-IsCauseIn rejects state (start.Rejected why) = rejects state why
+-- why a folder that has committed so many bytes of output with this state isn't served into, as far as these are the cause
+abbrev pub IsCauseIn : (List ℕ → Refusal → Type 0) → ℕ → List ℕ → StartError → Type 0
+IsCauseIn rejects count state (start.Unopened error) = ⊥
+IsCauseIn rejects count state (start.Unwritten error) = ⊤
+IsCauseIn rejects count state start.OutOfMemory = ⊤
+IsCauseIn rejects count state (start.Rejected why) = rejects state why
+IsCauseIn rejects count state start.Stateless = (state ≡ []) × (0 < count)
 
--- why a folder isn't served into: it isn't opened, or its state is rejected, or there is no memory, or a file can't be written
+-- why a folder isn't served into: it isn't opened, its state is rejected or missing, there is no memory, or a file can't be written
 abbrev pub IsCause : (List ℕ → Refusal → Type 0) → Kept → StartError → Type 0
 IsCause rejects was (start.Unopened error) = OpensNot (committed was) error
 IsCause rejects was (start.Unwritten error) = ⊤
 IsCause rejects was start.OutOfMemory = ⊤
 IsCause rejects was (start.Rejected why) = (commit : Commit) × (resumed [] was ≡ Ok commit) × rejects commit.state why
+IsCause rejects was start.Stateless = (commit : Commit) × (resumed [] was ≡ Ok commit) × (commit.state ≡ []) × (0 < length commit.output)
 
 -- a file couldn't be read or written
 abbrev pub IsFault : StartError → Type 0
@@ -48,6 +50,7 @@ IsFault (start.Unopened error) = error ≡ opening.Failed
 IsFault (start.Unwritten error) = error ≡ folder.Failed
 IsFault start.OutOfMemory = ⊥
 IsFault (start.Rejected why) = ⊥
+IsFault start.Stateless = ⊥
 
 -- it is nothing of what the folder holds: memory ran out, or a file couldn't be read or written
 abbrev pub IsPassing : StartError → Type 0
@@ -55,3 +58,4 @@ IsPassing (start.Unopened error) = (error ≡ opening.OutOfMemory) ⊎ (error �
 IsPassing (start.Unwritten error) = ⊤
 IsPassing start.OutOfMemory = ⊤
 IsPassing (start.Rejected why) = why ≡ refusal.OutOfMemory
+IsPassing start.Stateless = ⊥

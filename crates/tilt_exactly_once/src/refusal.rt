@@ -34,4 +34,7 @@ pub enum StartError {
     /// The state in the folder was rejected.
     #[error("{0}")]
     Rejected(Refusal),
+    /// Output is committed, but no state with it.
+    #[error("output is committed without a state")]
+    Stateless,
 }

@@ -38,19 +38,21 @@ pub fn open<F: Folder, M: Machine + Drop>(
     ensures is_open { F.tells → IfOk result (λ keeper. IsOpen (F.seen keeper.ledger.folder) (F.may_leave keeper.ledger.folder)) }
 {
     match Ledger::open(alloc, folder, b"") {
-        Ok(opened) => begin(alloc, opened.ledger, &opened.state, recipe),
+        Ok(opened) => begin(alloc, opened.ledger, opened.length, &opened.state, recipe),
         Err((error, folder)) => Err((StartError::Unopened(error), folder)),
     }
 }
 
-// Starts in an open folder that has committed this state.
+// Starts in an open folder that has committed this state with so many bytes of output.
 fn begin<F: Folder, M: Machine + Drop>(
     alloc: Global,
     ledger: Ledger<F>,
+    count: u64,
     state: &[u8],
     recipe: M::Recipe,
 ) -> Result<Keeper<F, M>, (StartError, F)>
-    requires { F.tells → IsOpen (F.seen ledger.folder) (F.may_leave ledger.folder) }
+    requires counted { F.tells → count ≡ length (F.seen ledger.folder).output }
+    requires is_open { F.tells → IsOpen (F.seen ledger.folder) (F.may_leave ledger.folder) }
     ensures started { F.tells → (bytes : List ℕ) → IsAt (M.commits (M.of recipe)) bytes (F.seen ledger.folder) state.now
         → IfOk result (λ keeper. IsStarted F.seen F.may_leave M.is M.output M.commits F.moment F.left_since (M.of recipe)
         ledger.folder keeper.ledger.folder keeper.machine keeper.written bytes) }
@@ -59,7 +61,7 @@ fn begin<F: Folder, M: Machine + Drop>(
         → IfErr result (λ e. LeavesOnly F.moment F.left_since ledger.folder e.1 (Holds (M.commits (M.of recipe)) bytes)) }
     ensures taken { F.tells → (bytes : List ℕ) → IsAt (M.commits (M.of recipe)) bytes (F.seen ledger.folder) state.now
         → IfErr result (λ e. IsPassing e.0) }
-    ensures cause { IfErr result (λ e. IsCauseIn (M.rejects recipe) state.now e.0) }
+    ensures cause { IfErr result (λ e. IsCauseIn (M.rejects recipe) count state.now e.0) }
     ensures failed { IfErr result (λ e. IsFault e.0 → Rose (F.faults ledger.folder) (F.faults e.1)) }
     ensures faults { MatchResult result (λ keeper. F.faults ledger.folder ≤ F.faults keeper.ledger.folder)
         (λ e. F.faults ledger.folder ≤ F.faults e.1) }
@@ -67,6 +69,9 @@ fn begin<F: Folder, M: Machine + Drop>(
     ensures is_open { F.tells → IfOk result (λ keeper. IsOpen (F.seen keeper.ledger.folder) (F.may_leave keeper.ledger.folder)) }
 {
     if state.is_empty() {
+        if count > 0 {
+            return Err((StartError::Stateless, ledger.folder));
+        }
         return begin_new(alloc, ledger, recipe);
     }
     match M::resume(alloc, recipe, state) {
@@ -89,7 +94,7 @@ fn begin_new<F: Folder, M: Machine + Drop>(
     ensures any_moment { F.tells → (bytes : List ℕ) → IsAt (M.commits (M.of recipe)) bytes (F.seen ledger.folder) []
         → IfErr result (λ e. LeavesOnly F.moment F.left_since ledger.folder e.1 (Holds (M.commits (M.of recipe)) bytes)) }
     ensures taken { IfErr result (λ e. IsPassing e.0) }
-    ensures cause { (state : List ℕ) → IfErr result (λ e. IsCauseIn (M.rejects recipe) state e.0) }
+    ensures cause { (count : ℕ) (state : List ℕ) → IfErr result (λ e. IsCauseIn (M.rejects recipe) count state e.0) }
     ensures failed { IfErr result (λ e. IsFault e.0 → Rose (F.faults ledger.folder) (F.faults e.1)) }
     ensures faults { MatchResult result (λ keeper. F.faults ledger.folder ≤ F.faults keeper.ledger.folder)
         (λ e. F.faults ledger.folder ≤ F.faults e.1) }

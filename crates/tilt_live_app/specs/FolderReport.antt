@@ -55,6 +55,7 @@ end_of_start name (start.Rejected reject.NotAState) = shared (refusal bad_state)
 end_of_start name (start.Rejected reject.OtherQuery) = shared (refusal other_query)
 end_of_start name (start.Rejected reject.OtherOptions) = shared (refusal other_options)
 end_of_start name (start.Rejected reject.OutOfMemory) = shared out_of_memory
+end_of_start name start.Stateless = shared (refusal bad_state)
 
 -- something halted the feed
 abbrev pub end_of_halt : List ℕ → Halt → FolderReport

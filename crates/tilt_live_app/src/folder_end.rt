@@ -67,7 +67,7 @@ fn end_of_start(name: &str, error: StartError) -> FolderEnd<'_>
     match error {
         StartError::Unopened(why) => end_of_opening(name, why),
         StartError::Unwritten(FolderError::Failed) => FolderEnd::Shared(Fault::SaveFault(name)),
-        StartError::Rejected(Rejection::NotAState) => {
+        StartError::Stateless | StartError::Rejected(Rejection::NotAState) => {
             FolderEnd::Shared(Fault::Refused(Refusal::BadState))
         }
         StartError::Rejected(Rejection::OtherQuery) => {

@@ -31,7 +31,29 @@ pub struct DiskFolder<'a, R: Files> {
     output: String,
     state: String,
     shelf: DiskShelf<'a, R>,
+    // What the disk may not have yet of the output.
+    unsynced: Unsynced,
     faults: u64,
+}
+
+// What the disk may not have yet of a file. A file that is replaced is synced with its entry when that is done.
+#[derive(Clone, Copy, Debug, PartialEq, Eq)]
+enum Unsynced {
+    Nothing,
+    // Some of its bytes.
+    Bytes,
+    // Some of its bytes, and its entry in the folder.
+    Entry,
+}
+
+impl Unsynced {
+    // The same after its bytes have changed.
+    fn with_bytes(self) -> Unsynced {
+        match self {
+            Unsynced::Nothing | Unsynced::Bytes => Unsynced::Bytes,
+            Unsynced::Entry => Unsynced::Entry,
+        }
+    }
 }
 
 impl<'a, R: Files> Model for DiskFolder<'a, R> {
@@ -60,6 +82,7 @@ impl<'a, R: Files> DiskFolder<'a, R> {
             output: format!(in alloc; "{folder}/{OUTPUT}")?,
             state: format!(in alloc; "{folder}/{STATE}")?,
             shelf: DiskShelf::new(alloc, files, program),
+            unsynced: Unsynced::Entry,
             faults: 0,
         })
     }
@@ -94,32 +117,57 @@ fn length_of<R: Files>(files: &R, path: &str) -> io::Result<u64> {
     }
 }
 
-// Appends to a file, which is made if it isn't there.
-fn append_to<R: Files>(files: &R, path: &str, bytes: &[u8]) -> io::Result<()> {
+// Appends to a file. If the disk may not have its entry, it may not be there: then it is made.
+fn append_to<R: Files>(files: &R, path: &str, bytes: &[u8], unsynced: Unsynced) -> io::Result<()> {
     let mut file = OpenOptions::new()
         .append(true)
-        .create(true)
+        .create(unsynced == Unsynced::Entry)
         .open(files, path)?;
     file.write_all(bytes)?;
     file.flush()
 }
 
-// Cuts a file.
+// Cuts a file. One that isn't there has no bytes.
 fn cut_to<R: Files>(files: &R, path: &str, len: u64) -> io::Result<()> {
-    OpenOptions::new()
-        .write(true)
-        .open(files, path)?
-        .set_len(len)
+    match OpenOptions::new().write(true).open(files, path) {
+        Ok(file) => file.set_len(len),
+        Err(error) if len == 0 && error.kind() == ErrorKind::NotFound => Ok(()),
+        Err(error) => Err(error),
+    }
 }
 
-// Waits until the disk has the file, if it is there, and its entry in the folder.
-fn sync_both<R: Files>(files: &R, path: &str, folder: &str) -> io::Result<()> {
+// Waits until the disk has the file, and returns whether it is there.
+fn sync_file<R: Files>(files: &R, path: &str) -> io::Result<bool> {
     match OpenOptions::new().write(true).open(files, path) {
-        Ok(file) => file.sync_all()?,
-        Err(error) if error.kind() == ErrorKind::NotFound => {}
-        Err(error) => return Err(error),
+        Ok(file) => {
+            file.sync_all()?;
+            Ok(true)
+        }
+        Err(error) if error.kind() == ErrorKind::NotFound => Ok(false),
+        Err(error) => Err(error),
     }
-    fs::open(files, folder)?.sync_all()
+}
+
+// Waits until the disk has what it may not have yet of a file in a folder, and returns what it may not have then: the entry of a file that
+// isn't there comes later.
+fn sync_all<R: Files>(
+    files: &R,
+    path: &str,
+    folder: &str,
+    unsynced: Unsynced,
+) -> io::Result<Unsynced> {
+    if unsynced == Unsynced::Nothing {
+        return Ok(Unsynced::Nothing);
+    }
+    let is_there = sync_file(files, path)?;
+    if unsynced == Unsynced::Entry {
+        fs::open(files, folder)?.sync_all()?;
+    }
+    if is_there {
+        Ok(Unsynced::Nothing)
+    } else {
+        Ok(Unsynced::Entry)
+    }
 }
 
 impl<'a, R: Files> Folder for DiskFolder<'a, R> {
@@ -157,18 +205,26 @@ impl<'a, R: Files> Folder for DiskFolder<'a, R> {
     }
 
     fn append(&mut self, bytes: &[u8]) -> Result<(), FolderError> {
-        let outcome = append_to(self.files, self.output.as_str(), bytes);
+        self.unsynced = self.unsynced.with_bytes();
+        let outcome = append_to(self.files, self.output.as_str(), bytes, self.unsynced);
         self.counted(outcome)
     }
 
     fn cut(&mut self, len: u64) -> Result<(), FolderError> {
+        self.unsynced = self.unsynced.with_bytes();
         let outcome = cut_to(self.files, self.output.as_str(), len);
         self.counted(outcome)
     }
 
     fn sync(&mut self) -> Result<(), FolderError> {
-        let outcome = sync_both(self.files, self.output.as_str(), self.folder.as_str());
-        self.counted(outcome)
+        let outcome = sync_all(
+            self.files,
+            self.output.as_str(),
+            self.folder.as_str(),
+            self.unsynced,
+        );
+        self.unsynced = self.counted(outcome)?;
+        Ok(())
     }
 
     fn replace_state(&mut self, bytes: &[u8]) -> Result<(), FolderError> {

@@ -6,9 +6,10 @@ use crate::disk_folder::DiskFolder;
 use crate::enter_error::EnterError;
 use crate::folders::Folders;
 use std::alloc::Global;
-use std::fs::{self, File, OpenOptions, TryLockError};
+use std::fs::{self, File, OpenFile, OpenOptions, TryLockError};
 use std::io::{self, ErrorKind};
 use std::marker::Model;
+use std::path::Path;
 use std::rt::Files;
 
 /// The name of the file in a folder on which the program that has the folder holds a lock.
@@ -75,12 +76,20 @@ impl<'a, R: Files<File = File>> DiskFolders<'a, R> {
     }
 }
 
-// Makes a folder, if it isn't there.
+// Makes a folder, if it isn't there, and waits until the disk has its entry.
 fn make_folder<R: Files>(files: &R, path: &str) -> io::Result<()> {
     match fs::create_dir(files, path) {
-        Ok(()) => Ok(()),
+        Ok(()) => fs::open(files, folder_above(path))?.sync_all(),
         Err(error) if error.kind() == ErrorKind::AlreadyExists => Ok(()),
         Err(error) => Err(error),
+    }
+}
+
+// The folder in which a folder with this path is.
+fn folder_above(path: &str) -> &str {
+    match Path::new(path).parent() {
+        Some(above) if !above.as_str().is_empty() => above.as_str(),
+        _ => ".",
     }
 }
 

@@ -1,5 +1,5 @@
 // An output that is appended to and committed together with a state.
-ghost use Rattle.std.specs.Prelude.{◌≡◌, ◌⊎◌, ◌≤◌, IfErr, IfOk, MatchResult, OnOk};
+ghost use Rattle.std.specs.Prelude.{◌≡◌, ◌⊎◌, ◌≤◌, length, IfErr, IfOk, MatchResult, OnOk};
 ghost use Rattle.tilt_outside.specs.Faults.{Rose};
 ghost use Rattle.tilt_store.specs.Commit.{committed};
 ghost use Rattle.tilt_store.specs.Crash.{LeavesOnly, Only};
@@ -19,11 +19,12 @@ pub struct Ledger<F: Folder> {
     pub folder: F,
 }
 
-/// A folder that was opened, and the state from which to go on.
+/// A folder that was opened, the state from which to go on, and how many bytes of output are committed with it.
 #[derive(Drop)]
 pub struct Opened<F: Folder> {
     pub ledger: Ledger<F>,
     pub state: Vec<u8>,
+    pub length: u64,
 }
 
 impl<F: Folder> Ledger<F> {
@@ -35,6 +36,7 @@ impl<F: Folder> Ledger<F> {
         requires { F.tells → Only (F.seen folder) (F.may_leave folder) }
         ensures reopened { F.tells → IfOk result (λ opened.
             IsReopened initial.now (F.seen folder) (F.seen opened.ledger.folder) opened.state.items) }
+        ensures length { F.tells → IfOk result (λ opened. opened.length ≡ length (F.seen opened.ledger.folder).output) }
         ensures settled { F.tells → IfOk result (λ opened. IsSettled (F.seen opened.ledger.folder) (F.may_leave opened.ledger.folder)) }
         ensures any_moment { F.tells → IfOk result (λ opened. LeavesOnly F.moment F.left_since folder opened.ledger.folder
             (OpensSame initial.now (F.seen folder))) }
@@ -46,9 +48,10 @@ impl<F: Folder> Ledger<F> {
             (λ opened. F.faults folder ≤ F.faults opened.ledger.folder) (λ e. F.faults folder ≤ F.faults e.1) }
     {
         match recover(alloc, &mut folder, initial) {
-            Ok(state) => Ok(Opened {
+            Ok(recovered) => Ok(Opened {
                 ledger: Ledger { folder },
-                state,
+                state: recovered.state,
+                length: recovered.length,
             }),
             Err(error) => Err((error, folder)),
         }

@@ -11,15 +11,23 @@ use crate::mark::{spell, unspell};
 use crate::open_error::OpenError;
 use std::alloc::Global;
 
-/// Cuts the output to the last commit, and returns the state of that commit. In an empty folder it commits an empty output with the
+// The state of a commit, and how many bytes of output it has.
+#[derive(Drop)]
+pub(crate) struct Recovered {
+    pub(crate) state: Vec<u8>,
+    pub(crate) length: u64,
+}
+
+/// Cuts the output to the last commit, and returns its state and its length. In an empty folder it commits an empty output with the
 /// initial state.
 pub(crate) fn recover<F: Folder>(
     alloc: Global,
     folder: &mut F,
     initial: &[u8],
-) -> Result<Vec<u8>, OpenError>
+) -> Result<Recovered, OpenError>
     requires { F.tells → Only (F.seen folder.old) (F.may_leave folder.old) }
-    ensures reopened { F.tells → IfOk result (λ state. IsReopened initial.now (F.seen folder.old) (F.seen folder.new) state.items) }
+    ensures reopened { F.tells → IfOk result (λ found. IsReopened initial.now (F.seen folder.old) (F.seen folder.new) found.state.items) }
+    ensures length { F.tells → IfOk result (λ found. found.length ≡ length (F.seen folder.new).output) }
     ensures settled { F.tells → OnOk result (IsSettled (F.seen folder.new) (F.may_leave folder.new)) }
     ensures any_moment { F.tells → LeavesOnly F.moment F.left_since folder.old folder.new (OpensSame initial.now (F.seen folder.old)) }
     ensures error { F.tells → IfErr result (OpensNot (committed (F.seen folder.old))) }
@@ -40,11 +48,12 @@ fn begin<F: Folder>(
     folder: &mut F,
     size: u64,
     initial: &[u8],
-) -> Result<Vec<u8>, OpenError>
+) -> Result<Recovered, OpenError>
     requires only { F.tells → Only (F.seen folder.old) (F.may_leave folder.old) }
     requires empty { F.tells → (F.seen folder.old).state ≡ [] }
     requires counted { F.tells → size ≡ length (F.seen folder.old).output }
-    ensures reopened { F.tells → IfOk result (λ state. IsReopened initial.now (F.seen folder.old) (F.seen folder.new) state.items) }
+    ensures reopened { F.tells → IfOk result (λ found. IsReopened initial.now (F.seen folder.old) (F.seen folder.new) found.state.items) }
+    ensures length { F.tells → IfOk result (λ found. found.length ≡ length (F.seen folder.new).output) }
     ensures settled { F.tells → OnOk result (IsSettled (F.seen folder.new) (F.may_leave folder.new)) }
     ensures any_moment { F.tells → LeavesOnly F.moment F.left_since folder.old folder.new (OpensSame initial.now (F.seen folder.old)) }
     ensures error { F.tells → IfErr result (OpensNot (committed (F.seen folder.old))) }
@@ -58,7 +67,7 @@ fn begin<F: Folder>(
     let text = spell(alloc, 0, initial)?;
     folder.replace_state(&text)?;
     folder.sync()?;
-    Ok(state)
+    Ok(Recovered { state, length: 0 })
 }
 
 // Opens a folder with a state.
@@ -68,12 +77,13 @@ fn resume<F: Folder>(
     size: u64,
     bytes: &[u8],
     initial: &[u8],
-) -> Result<Vec<u8>, OpenError>
+) -> Result<Recovered, OpenError>
     requires only { F.tells → Only (F.seen folder.old) (F.may_leave folder.old) }
     requires read { F.tells → bytes.now ≡ (F.seen folder.old).state }
     requires some { 0 < length bytes.now }
     requires counted { F.tells → size ≡ length (F.seen folder.old).output }
-    ensures reopened { F.tells → IfOk result (λ state. IsReopened initial.now (F.seen folder.old) (F.seen folder.new) state.items) }
+    ensures reopened { F.tells → IfOk result (λ found. IsReopened initial.now (F.seen folder.old) (F.seen folder.new) found.state.items) }
+    ensures length { F.tells → IfOk result (λ found. found.length ≡ length (F.seen folder.new).output) }
     ensures settled { F.tells → OnOk result (IsSettled (F.seen folder.new) (F.may_leave folder.new)) }
     ensures any_moment { F.tells → LeavesOnly F.moment F.left_since folder.old folder.new (OpensSame initial.now (F.seen folder.old)) }
     ensures error { F.tells → IfErr result (OpensNot (committed (F.seen folder.old))) }
@@ -89,5 +99,5 @@ fn resume<F: Folder>(
     let state = rest.to_vec(alloc)?;
     folder.cut(end)?;
     folder.sync()?;
-    Ok(state)
+    Ok(Recovered { state, length: end })
 }
