@@ -570,10 +570,10 @@ def test_a_program_that_isnt_there_is_told_in_a_line_and_loses_nothing(tmp_path,
 
 def test_rows_that_cant_be_written_are_told_in_a_line(tmp_path):
     with pytest.raises(Refused, match="nowhere/rows.x.csv: it can't be written: No such file or directory$"):
-        sessions.put_rows(str(tmp_path / "nowhere"), {"x": [(0, 5, 7)]})
+        sessions.put_rows(str(tmp_path / "nowhere"), "x", [b"0,5,7\n"])
     (tmp_path / "rows.x.csv").symlink_to("/dev/full")
     with pytest.raises(Refused, match="rows.x.csv: it can't be written: No space left on device$"):
-        sessions.put_rows(str(tmp_path), {"x": [(0, 5, 7)]})
+        sessions.put_rows(str(tmp_path), "x", [b"0,5,7\n"])
 
 
 def intervals(*minutes: tuple[int, int]):

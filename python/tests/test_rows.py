@@ -13,14 +13,16 @@ pandas = pytest.importorskip("pandas")
 
 from conftest import PROGRAM
 from tilt_data import Convention, Query, Refused, run
-from tilt_data.clock import Clock
-from tilt_data.convert import row_text
+from tilt_data.clock import TIMES, Clock, moment_text
+from tilt_data.convention import moment_read
+from tilt_data.convert import Converter, Late, Tie, row_text
 from tilt_data.digits import rows_text
-from tilt_data.frames import arrays_of, keys_of, rows_from, whole_values
+from tilt_data.frames import arrays_of, beyond, keys_of
 from tilt_data.keys import Alone
 from tilt_data.rows import RowArrays, output_of
+from tilt_data.scales import Scale
 from tilt_data.table import merged
-from tilt_data.whole import digits_in, digits_after_point, texts_of, whole_numbers
+from tilt_data.whole import digits_in, digits_after_point, in_python, texts_of, whole_numbers
 
 KINDS = ["float64"] * 4 + ["float32", "float16", "Float64", "Float32", "int64", "uint64", "int16", "Int64", "UInt8", "object", "decimal"]
 EDGES = [
@@ -74,6 +76,14 @@ def values_of(draws: random.Random, kind: str, count: int):
 
 def digits_one_by_one(series) -> int:
     return max((digits_after_point(text) for text in texts_of(series) if text is not None), default=0)
+
+
+def whole_values(name: str, series, scale: int) -> list[int | None]:
+    read = Scale(scale)
+    try:
+        return [None if text is None else read.whole(text) for text in texts_of(series)]
+    except ValueError as error:
+        raise Refused(f"the input {name}: {in_python(str(error))}") from error
 
 
 def whole_as_list(name: str, series, scale: int) -> list[int | None]:
@@ -140,8 +150,45 @@ def bytes_of(series, clock: Clock, convention: Convention) -> bytes:
     return b"".join(part.text() for part in arrays_of("x", series, clock, convention, 1))
 
 
+def moments_in(index) -> list[int]:
+    return [moment.value for moment in index]
+
+
+def rows_of_intervals(series, clock: Clock):
+    values = whole_values("x", series, 1)
+    if series.index.closed != clock.closed:
+        raise Refused(f"the input x: its intervals are closed {series.index.closed!r}, not {clock.closed!r}: closed= or index.set_closed()")
+    for start, end, value in zip(moments_in(series.index.left), moments_in(series.index.right), values):
+        for edge in (start, end):
+            if (edge - clock.origin) % clock.tick:
+                raise Refused(f"the input x: the interval end {moment_text(edge, 9)} isn't on a tick: a shorter tick")
+        yield (start - clock.origin) // clock.tick, (end - clock.origin) // clock.tick, value
+
+
+def rows_one_by_one(series, clock: Clock, convention: Convention):
+    if isinstance(series.index, pandas.IntervalIndex):
+        yield from rows_of_intervals(series, clock)
+        return
+    converter = Converter(clock, convention.rule("x", clock))
+    for moment, value in zip(moments_in(series.index), whole_values("x", series, 1)):
+        try:
+            row = None if value is None and convention.skip_empty else converter.push(moment, value)
+        except Tie:
+            what = f"two readings in one tick at {moment_text(moment, 9)}: ties='last', 'first' or 'spread', or a shorter tick"
+            raise Refused(f"the input x: {what}")
+        except Late:
+            raise Refused(f"the input x: the reading at {moment_text(moment, 9)} lies before the one before it: sort_index()")
+        yield row
+    yield converter.finish(None if convention.until is None else clock.start(moment_read("until", convention.until)))
+
+
 def bytes_one_by_one(series, clock: Clock, convention: Convention) -> bytes:
-    return "".join(map(row_text, rows_from("x", series, clock, convention, 1))).encode()
+    texts = []
+    for row in filter(None, rows_one_by_one(series, clock, convention)):
+        if row[0] < -TIMES or row[1] > TIMES:
+            raise beyond("x")
+        texts.append(row_text(row))
+    return "".join(texts).encode()
 
 
 @pytest.mark.parametrize("at_once", [1, 2, 3, 7, 1 << 15])

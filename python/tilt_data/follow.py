@@ -18,6 +18,7 @@ it from its next session on. To reject it would lose what its checkpoint holds, 
 from __future__ import annotations
 
 import argparse
+import bisect
 import contextlib
 import dataclasses
 import functools
@@ -28,7 +29,7 @@ import re
 import select
 import sys
 import time
-from typing import Any, Iterator, NoReturn
+from typing import IO, Any, Iterator, NoReturn
 
 from . import sessions
 from .clock import TIMES, WHOLE, Moments, duration_of, zone_of
@@ -97,8 +98,9 @@ class BadLine(ValueError):
 
 @dataclasses.dataclass
 class Source:
-    """An input: the rows that no session was handed yet, up to where it is known, and the reading that is held back; the number and the
-    time of its last line. Of one that is given whole by a file, its path, and a digest of its rows that were handed on."""
+    """An input: the rows that no session was given yet, up to where it is known, and the reading that is held back; the number and the
+    time of its last line. Of one that is given whole by a file all its rows, its path, how many of them were handed on, and their
+    digest."""
 
     rows: list[Row]
     reached: int | None = None
@@ -109,67 +111,69 @@ class Source:
     line: int = 0
     came: float = dataclasses.field(default_factory=time.monotonic)
 
+    @staticmethod
+    def of(path: str) -> Source:
+        with reading(path) as file:
+            rows = list(rows_of(path, file))
+        return Source(rows, rows[-1][1] if rows else None, path=path)
+
     @property
     def fixed(self) -> bool:
         return self.path is not None
 
-    def hand(self, cut: int | None) -> list[Row]:
-        """The rows for a session up to a cut, or for the last one; the others stay."""
-        handed, self.rows = sessions.below(self.rows, cut)
-        self.count(handed)
-        return handed
+    def hand(self, cut: int | None) -> list[bytes]:
+        """The lines of the rows for a session up to a cut, or for the last one. The rows of a file stay from the cut on."""
+        if not self.fixed:
+            rows, self.rows = self.rows, []
+            return [row_text(row).encode() for row in rows]
+        return self.count(len(self.rows) if cut is None else bisect.bisect_left(self.rows, cut, self.handed, key=lambda row: row[0]))
 
-    def count(self, handed: list[Row]) -> None:
-        self.handed += len(handed)
-        if self.fixed:
-            for row in handed:
-                self.digest.update(row_text(row).encode())
+    def count(self, end: int) -> list[bytes]:
+        """The lines of a file's rows up to this one that weren't handed on before; they are now."""
+        texts = [row_text(row).encode() for row in self.rows[self.handed : end]]
+        self.handed += len(texts)
+        for text in texts:
+            self.digest.update(text)
+        return texts
 
-    def check(self, state: str, kept: Taken, cut: int) -> None:
-        """Rejects a file whose rows that were handed on have changed, or that has a new row below the cut, where all is decided."""
-        digest = hashlib.sha256()
-        for row in self.rows[: kept["handed"]]:
-            digest.update(row_text(row).encode())
-        changed = "digest" in kept and digest.hexdigest() != kept["digest"]
-        rest = self.rows[kept["handed"] :]
-        if changed or len(self.rows) < kept["handed"]:
+    def load(self, state: str, kept: Taken, cut: int) -> None:
+        """Goes on with a file after the rows that were handed on. One in which these have changed, or that has a new row below the cut,
+        where all is decided, is rejected."""
+        self.count(kept["handed"])
+        if self.handed < kept["handed"] or self.digest.hexdigest() != kept.get("digest", self.digest.hexdigest()):
             raise Refused(
                 f"{self.path}: its first {kept['handed']} rows aren't those that {state} was given before: give the file as it "
                 "was, or name another --state"
             )
-        if rest and rest[0][0] < cut:
+        if self.handed < len(self.rows) and self.rows[self.handed][0] < cut:
+            start, end, _ = self.rows[self.handed]
             raise Refused(
-                f"{self.path}: its row {rest[0][0]},{rest[0][1]} is new and starts before {cut}, up to where {state} went: take "
+                f"{self.path}: its row {start},{end} is new and starts before {cut}, up to where {state} went: take "
                 f"out new rows that start before {cut}, or name another --state"
             )
 
     def dump(self) -> Taken:
-        """What is written of it: of one that is given whole how many of its rows were handed on, and their digest."""
         if self.fixed:
             return {"handed": self.handed, "digest": self.digest.hexdigest()}
-        return {"rows": self.rows, "reached": self.reached, "converter": None if self.converter is None else self.converter.dump()}
+        return {"reached": self.reached, "converter": None if self.converter is None else self.converter.dump()}
 
 
 class Reader:
     """Makes rows of lines."""
 
     def __init__(self, words: argparse.Namespace, sources: dict[str, Source]) -> None:
-        self.words = words
-        self.sources = sources
+        self.words, self.sources = words, sources
         self.moments = Moments(words.unit, zone_of(words.zone))
         self.convention = TextConvention.of(words)
         self.convention.check_names(sources)
-        self.scales = {name: self.known_scale(name) for name in sources}
+        # A scale is needed before the first reading.
+        scales = {name: self.convention.scale_of(name) for name in sources}
+        if None in scales.values():
+            raise Refused("--scale auto: rows are handed on before all data are there, so a whole number above 0 was expected")
+        self.scales = {name: Scale(scale or 1) for name, scale in scales.items()}
         self.clock = self.convention.clock(0) if self.convention.has_clock else None
         self.until = self.convention.until_tick(self.clock)
         self.unknown: set[str] = set()
-
-    def known_scale(self, name: str) -> Scale:
-        """The scale of an input, which is needed before its first reading."""
-        scale = self.convention.scale_of(name)
-        if scale is None:
-            raise Refused("--scale auto: rows are handed on before all data are there, so a whole number above 0 was expected")
-        return Scale(scale)
 
     def take(self, line: str, line_number: int) -> None:
         """One line, without its end. What it can't be is a BadLine."""
@@ -182,15 +186,15 @@ class Reader:
         if source is None:
             if fields[0] not in self.unknown:
                 self.unknown.add(fields[0])
-                note(f"the query has no input {shortened(shown(fields[0].encode()))}: its lines are passed over")
-        elif source.fixed:
+                note(f"the query has no input {shown(fields[0].encode(), 200)}: its lines are passed over")
+            return
+        if source.fixed:
             raise BadLine(f"{fields[0]} is given by a file")
-        elif len(fields) == 4:
+        if len(fields) == 4:
             self.row(source, fields)
         else:
             self.reading(source, fields)
-        if source is not None:
-            source.line, source.came = line_number, time.monotonic()
+        source.line, source.came = line_number, time.monotonic()
 
     def row(self, source: Source, fields: list[str]) -> None:
         if not all(map(WHOLE.fullmatch, fields[1:3])) or not WHOLE.fullmatch(fields[3] or "0"):
@@ -215,7 +219,7 @@ class Reader:
             moment = self.moments.read(fields[1])
             if value is None and self.convention.skips_empty(fields[0]):
                 return
-            self.within(source, converter, self.clock.start(moment))
+            self.check_tick(source, converter, self.clock.start(moment))
             row = converter.push(moment, value)
         except Tie as error:
             raise BadLine("a second reading in one tick: --ties last, first or spread, or a shorter --tick, in a new --state") from error
@@ -224,13 +228,11 @@ class Reader:
         except ValueError as error:
             # There is no `--scale auto` here, and a folder that has readings keeps its scale.
             raise BadLine(str(error).replace(" or --scale auto", " in a new --state")) from error
-        source.converter = converter
-        if row is not None:
-            source.rows.append(row)
-        source.reached = converter.start
+        source.converter, source.reached = converter, converter.start
+        source.rows += [] if row is None else [row]
 
-    def within(self, source: Source, converter: Converter, tick: int) -> None:
-        """Whether the row of a reading in this tick can be handed to the program."""
+    def check_tick(self, source: Source, converter: Converter, tick: int) -> None:
+        """Rejects a reading in a tick whose row can't be handed to the program."""
         if converter.moment is None and source.reached is not None and tick < source.reached:
             raise BadLine(f"it lies before {source.reached}, up to where its rows were known: it came too late")
         if converter.moment is not None and converter.rule.ties == "spread":
@@ -242,8 +244,7 @@ class Reader:
         """The readings that are held back become rows."""
         for source in self.sources.values():
             row = None if source.converter is None else source.converter.finish(self.until)
-            if row is not None:
-                source.rows.append(row)
+            source.rows += [] if row is None else [row]
 
     def shape(self) -> Taken | None:
         """The options, to be kept; None while no reading was taken, since they don't change rows that come as ticks."""
@@ -254,34 +255,28 @@ class Reader:
         words, options = self.words, self.convention.arguments()
         of_like = {"--tick": words.tick, "--origin": words.origin, "--closed": words.closed, "--scale": words.scale}
         for option in {**kept, **options}:
-            before, now = kept.get(option), options.get(option)
-            if (now or None) != (before or None):
+            if (kept.get(option) or None) != (options.get(option) or None):
+                before, now = (option_text(option, given.get(option)) for given in (kept, options))
                 place = f" (of --like {words.like})" if words.like is not None and not of_like.get(option, "-") else ""
-                raise Refused(
-                    f"{state} was started {option_text(option, before)}, not {option_text(option, now)}{place}: call it again "
-                    f"{option_text(option, before)}, or name another --state"
-                )
+                raise Refused(f"{state} was started {before}, not {now}{place}: call it again {before}, or name another --state")
 
     def load(self, name: str, kept: Taken) -> None:
+        """Goes on with an input that comes in lines."""
         source = self.sources[name]
-        if "handed" in kept:
-            source.count(source.rows[: kept["handed"]])
-            source.rows = source.rows[kept["handed"] :]
-            return
-        source.rows = [(start, end, value) for start, end, value in kept["rows"]]
+        # An earlier version kept rows above its cut.
+        source.rows = [(start, end, value) for start, end, value in kept.get("rows", [])]
         source.reached = kept["reached"]
-        if kept["converter"] is not None and self.clock is not None:
-            source.converter = Converter(self.clock, self.convention.rule(name, self.clock))
-            source.converter.load(kept["converter"])
+        if kept["converter"] is not None:
+            if self.clock is None:
+                raise Refused("readings were taken before: --tick and --origin, or --like, are needed again")
+            source.converter = Converter(self.clock, self.convention.rule(name, self.clock), **kept["converter"])
 
     def text(self, tick: int) -> str:
         """A tick as a time, or as its number if no reading has a clock or there is no such year."""
-        if self.clock is None or self.shape() is None:
-            return str(tick)
-        try:
-            return self.clock.text(tick)
-        except Refused:
-            return str(tick)
+        if self.clock is not None and self.shape() is not None:
+            with contextlib.suppress(Refused):
+                return self.clock.text(tick)
+        return str(tick)
 
 
 def option_text(option: str, value: Any) -> str:
@@ -291,26 +286,20 @@ def option_text(option: str, value: Any) -> str:
     return f"with {option}" if value is True else f"with {option} {value}"
 
 
-def shown(line: bytes) -> str:
-    """A line as a text that a terminal can take: each byte of what isn't printable or isn't UTF-8, and of a backslash, is written \\xNN."""
-    text = line.decode("utf-8", "surrogateescape")
-    return "".join(
+def shown(line: bytes, most: int | None = None) -> str:
+    """A line as a text that a terminal can take: each byte of what isn't printable or isn't UTF-8, and of a backslash, is written \\xNN. What
+    is after the most signs is left out."""
+    text = "".join(
         sign if sign.isprintable() and sign != "\\" else "".join(f"\\x{byte:02x}" for byte in sign.encode("utf-8", "surrogateescape"))
-        for sign in text
+        for sign in line.decode("utf-8", "surrogateescape")
     )
-
-
-def shortened(text: str) -> str:
-    return text if len(text) <= 200 else f"{text[:200]}.."
+    return text if most is None or len(text) <= most else f"{text[:most]}.."
 
 
 def number(text: str, least: int, greatest: int, what: str) -> int:
     """A whole number that the program takes."""
-    try:
-        found = int(text)
-    except ValueError:
-        # More digits than Python reads.
-        found = greatest + 1
+    # Python doesn't read thousands of digits.
+    found = int(text) if len(text) < 4000 else greatest + 1
     if not least <= found <= greatest:
         raise BadLine(f"{what} within {least} to {greatest} was expected")
     return found
@@ -339,41 +328,36 @@ class Chain:
     def dump(self) -> Taken:
         return {"lines": self.count, "chain": {"digest": self.digest.hex(), "marks": self.marks} if self.known else None}
 
-    def load(self, kept: Taken) -> None:
-        self.count = kept["lines"]
+    @staticmethod
+    def of(kept: Taken) -> Chain:
         chain = kept.get("chain")
-        self.known = chain is not None or self.count == 0
-        if chain is not None:
-            self.digest = bytes.fromhex(chain["digest"])
-            self.marks = {int(count): digest for count, digest in chain["marks"].items()}
+        if chain is None:
+            return Chain(kept["lines"], known=kept["lines"] == 0)
+        return Chain(kept["lines"], bytes.fromhex(chain["digest"]), {int(count): digest for count, digest in chain["marks"].items()})
 
 
 class Passing:
     """Passes over the lines that were taken before, of an input that starts with its first line again, and compares them."""
 
     def __init__(self, taken: Chain, state: str) -> None:
-        self.taken = taken
-        self.state = state
+        self.taken, self.state = taken, state
         self.left = taken.count
         self.seen = Chain()
 
     def rest(self, lines: list[bytes]) -> list[bytes]:
         """The lines that come after those taken before."""
+        taken, seen = self.taken, self.seen
         passed = lines[: self.left]
         self.left -= len(passed)
         for line in passed:
-            self.seen.add(line)
-            if self.taken.known and self.seen.count in self.taken.marks:
-                self.compare(self.taken.marks[self.seen.count])
+            seen.add(line)
+            is_last = seen.count == taken.count
+            if taken.known and seen.digest.hex() != (taken.digest.hex() if is_last else taken.marks.get(seen.count, seen.digest.hex())):
+                what = "the first line isn't" if seen.count == 1 else f"the first {seen.count} lines aren't"
+                self.reject(f"{what} what {self.state} took before")
         if passed and not self.left:
-            self.compare(self.taken.digest.hex() if self.taken.known else self.seen.digest.hex())
-            self.taken.digest, self.taken.marks, self.taken.known = self.seen.digest, self.seen.marks, True
+            taken.digest, taken.marks, taken.known = seen.digest, seen.marks, True
         return lines[len(passed) :]
-
-    def compare(self, digest: str) -> None:
-        if self.seen.digest.hex() != digest:
-            what = "the first line isn't" if self.seen.count == 1 else f"the first {self.seen.count} lines aren't"
-            self.reject(f"{what} what {self.state} took before")
 
     def finish(self) -> None:
         """Rejects an input that has ended before the last line that was taken before."""
@@ -381,36 +365,37 @@ class Passing:
             self.reject(f"the input ended after {self.seen.count} lines, and {self.state} took {self.taken.count} before")
 
     def reject(self, what: str) -> NoReturn:
-        raise Refused(
-            f"{what}: with --again the input must start with the same first line; put rotated lines in front of it, or name "
-            "another --state"
-        )
+        cure = "with --again the input must start with the same first line; put rotated lines in front of it, or name another --state"
+        raise Refused(f"{what}: {cure}")
 
 
 # The folder
 
 
 class Store:
-    """The folder of a state: what stands in it, and the session that was the last to count."""
+    """The folder of a state: its files, and the session that was the last to count. Its cut is `end`, a number, or `begin` for none."""
 
     def __init__(self, folder: str) -> None:
-        self.folder = folder
-        if os.path.isdir(folder) and not is_ours(os.listdir(folder)):
+        names = os.listdir(folder) if os.path.isdir(folder) else []
+        # A call that was killed at its beginning leaves the lock alone.
+        begun = "query.tilt" in names and ("lock" in names or any(map(STATE.fullmatch, names)))
+        if not begun and not set(names) <= {"lock", "query.tilt.new"}:
             raise Refused(f"{folder}: it isn't empty, and `tilt-data follow` didn't begin it: name another folder by --state")
+        self.folder = folder
         self.lock = locked(folder, "follow")
-        self.cut: str = self.found()
+        cuts = [found[1] for found in map(STATE.fullmatch, os.listdir(folder)) if found]
+        self.cut: str = "end" if "end" in cuts else max(cuts, key=int, default="begin")
         self.output = os.path.join(folder, "output.csv")
         self.rejected = os.path.join(folder, "rejected.log")
         self.placed = 0
-        self.log: Any = None
+        self.log: IO[bytes] | None = None
 
     def path(self, kind: str, cut: str | None = None) -> str:
         return os.path.join(self.folder, f"{kind}.{self.cut if cut is None else cut}")
 
-    def found(self) -> str:
-        """The cut of the newest session that counts: `end`, a number, or `begin` for none."""
-        cuts = [found[1] for found in map(STATE.fullmatch, os.listdir(self.folder)) if found]
-        return "end" if "end" in cuts else max(cuts, key=int, default="begin")
+    def new(self, kind: str) -> str:
+        """A name that no other call has: the program may still be writing for one that was killed."""
+        return self.path("new", f"{kind}.{os.getpid()}")
 
     def notes(self) -> Taken:
         if self.cut == "begin":
@@ -422,13 +407,13 @@ class Store:
             raise Refused(f"{self.path('notes')}: what `tilt-data follow` wrote was expected: {error}") from error
         return found
 
-    def bring_up(self) -> bytes:
-        """Puts the part of the last session to the end of the output, once, and takes away what isn't needed any more. The part."""
+    def bring_up(self, before: int) -> bytes:
+        """Puts the part of the last session to the end of the output, of which it isn't a part yet or is one already, and takes away what
+        sessions before it left. The part."""
         part = b""
         if self.cut != "begin":
             with open(self.path("part"), "rb") as file:
                 part = file.read()
-            before = self.notes()["output"]
             self.check_size(before, before + len(part))
             with open(self.output, "r+b" if os.path.exists(self.output) else "w+b") as out:
                 out.truncate(before)
@@ -437,46 +422,40 @@ class Store:
                 out.flush()
                 os.fsync(out.fileno())
             self.placed = before + len(part)
-        self.sweep()
-        return part
-
-    def sweep(self) -> None:
-        """Takes away what sessions before the last one left."""
         kept = {f"{kind}.{self.cut}" for kind in ("part", "notes", "state", "log")}
         with os.scandir(self.folder) as entries:
             for entry in entries:
                 if PASSING.fullmatch(entry.name) and entry.name not in kept and entry.is_file(follow_symlinks=False):
                     os.unlink(entry.path)
+        return part
 
     def check_size(self, least: int, most: int) -> None:
         """Refuses an output that isn't as it was left: what was taken from it would be filled up, and what was added cut off."""
-        size = self.size()
+        size = os.path.getsize(self.output) if os.path.exists(self.output) else 0
         if not least <= size <= most:
             sizes = f"{least}" if least == most else f"{least} to {most}"
             raise Refused(f"{self.output}: it has {size} bytes, not {sizes}: it was moved away or changed; put it back as it was")
 
-    def logged(self) -> tuple[list[bytes], int]:
-        """The whole lines that came since the last session, and how many bytes they are."""
-        try:
-            with open(self.path("log"), "rb") as file:
-                text = file.read()
-        except FileNotFoundError:
-            return [], 0
+    def logged(self) -> list[bytes]:
+        """The whole lines that came since the last session. The log is opened to put lines to its end, which is cut after them."""
+        text = b""
+        with contextlib.suppress(FileNotFoundError), open(self.path("log"), "rb") as file:
+            text = file.read()
         end = text.rfind(b"\n") + 1
-        return text[:end].split(b"\n")[:-1], end
+        self.open_log(end)
+        return text[:end].split(b"\n")[:-1]
 
     def open_log(self, size: int) -> None:
-        """Opens the log to put lines to its end, which is cut after its last whole line."""
         if self.log is not None:
             self.log.close()
         self.log = open(self.path("log"), "ab", buffering=0)
         self.log.truncate(size)
 
-    def put_log(self, text: bytes) -> None:
-        """Writes all of it to the log, or is refused; the next call takes the whole lines that are there."""
-        rest = memoryview(text)
+    def put_log(self, lines: list[bytes]) -> None:
+        """Writes all of them to the log, or is refused; the next call takes the whole lines that are there."""
+        rest = memoryview(b"".join(line + b"\n" for line in lines))
         with failing_at(self.path("log")):
-            while rest:
+            while rest and self.log is not None:
                 rest = rest[self.log.write(rest) :]
 
     def reject(self, text: str) -> None:
@@ -489,27 +468,19 @@ class Store:
         if os.path.exists(self.rejected) and os.path.getsize(self.rejected) > size:
             os.truncate(self.rejected, size)
 
-    def rejected_size(self) -> int:
-        """How many bytes of rejected lines there are, after they have come to the disk."""
-        if not os.path.exists(self.rejected):
-            return 0
-        sync(self.rejected)
-        return os.path.getsize(self.rejected)
-
-    def new(self, kind: str) -> str:
-        """A name that no other call has: the program may still be writing for one that was killed."""
-        return self.path("new", f"{kind}.{os.getpid()}")
-
-    def commit(self, cut: str, notes: Taken) -> None:
-        """Makes a session count: its part, its notes, and last its state take their names."""
-        self.check_size(self.placed, self.placed)
-        new = self.new("notes")
-        with open(new, "w", encoding="utf-8") as file:
-            json.dump({"version": VERSION, **notes, "output": self.placed, "rejected_size": self.rejected_size()}, file)
-        for path in (new, self.new("part")):
-            sync(path)
-        os.replace(self.new("part"), self.path("part", cut))
-        os.replace(new, self.path("notes", cut))
+    def commit(self, cut: str, notes: Taken) -> bytes:
+        """Makes a session count: its part, its notes, and last its state take their names. The part, which is in the output then."""
+        before, size = self.placed, 0
+        self.check_size(before, before)
+        if os.path.exists(self.rejected):
+            sync(self.rejected)
+            size = os.path.getsize(self.rejected)
+        with open(self.new("notes"), "w", encoding="utf-8") as file:
+            json.dump({"version": VERSION, **notes, "output": before, "rejected_size": size}, file)
+        for kind in ("notes", "part"):
+            sync(self.new(kind))
+        for kind in ("part", "notes"):
+            os.replace(self.new(kind), self.path(kind, cut))
         sync(self.folder)
         if cut == "end":
             with open(self.new("state"), "w", encoding="ascii"):
@@ -517,15 +488,7 @@ class Store:
         os.replace(self.new("state"), self.path("state", cut))
         sync(self.folder)
         self.cut = cut
-
-    def size(self) -> int:
-        return os.path.getsize(self.output) if os.path.exists(self.output) else 0
-
-
-def is_ours(names: list[str]) -> bool:
-    """Whether a folder with these names is empty, or was begun here; a call that was killed at its beginning leaves the lock alone."""
-    begun = "query.tilt" in names and ("lock" in names or any(map(STATE.fullmatch, names)))
-    return begun or set(names) <= {"lock", "query.tilt.new"}
+        return self.bring_up(before)
 
 
 # Following
@@ -541,8 +504,7 @@ class Follower:
         self.sources = self.sources_of()
         self.reader = Reader(words, self.sources)
         self.chain = Chain()
-        self.rejected = 0
-        self.fresh = 0
+        self.rejected = self.fresh = 0
         self.every = duration_of(words.every) / 10**9
         with open(self.query, encoding="utf-8") as file:
             over = over_of(file.read())
@@ -553,22 +515,21 @@ class Follower:
     def same_query(self) -> tuple[str, Explained]:
         """A copy of the query in the folder, byte for byte, and what the program says of it: a state goes on with its own query alone. A
         query that the program rejects begins no folder."""
-        with open(self.words.query, "rb") as file:
+        query, state = self.words.query, self.words.state
+        with open(query, "rb") as file:
             text = file.read()
-        copy = os.path.join(self.words.state, "query.tilt")
+        copy = os.path.join(state, "query.tilt")
         if os.path.exists(copy):
             with open(copy, "rb") as file:
                 if file.read() != text:
-                    raise Refused(
-                        f"{self.words.query}: it isn't the query that {self.words.state} was started with: take {copy}, which "
-                        "is, or name another --state"
-                    )
-            return copy, sessions.explained(copy, self.words.query)
+                    cure = f"take {copy}, which is, or name another --state"
+                    raise Refused(f"{query}: it isn't the query that {state} was started with: {cure}")
+            return copy, sessions.explained(copy, query)
         new = copy + ".new"
         try:
             with open(new, "wb") as file:
                 file.write(text)
-            explained = sessions.explained(new, self.words.query)
+            explained = sessions.explained(new, query)
             sync(new)
             os.replace(new, copy)
         finally:
@@ -585,10 +546,8 @@ class Follower:
                 raise Refused(f"{word}: the query has no input {name}; its inputs are {', '.join(sources)}")
             if sources[name].fixed:
                 raise Refused(f"{word}: {name} is given by {sources[name].path} already: name one file for each input")
-            with reading(path) as file:
-                rows = list(rows_of(path, file))
-            sources[name] = Source(rows, rows[-1][1] if rows else None, path=path)
-        if not any(not source.fixed for source in sources.values()):
+            sources[name] = Source.of(path)
+        if all(source.fixed for source in sources.values()):
             raise Refused("no input is left that lines could come for")
         return sources
 
@@ -596,27 +555,24 @@ class Follower:
         """Takes up what a call before left. False where that was ended already."""
         notes = self.store.notes()
         if self.store.cut != "end":
-            self.check(notes)
-        self.store.bring_up()
+            self.load(notes)
+        self.store.bring_up(notes["output"])
         if self.store.cut == "end":
             return False
-        for name, kept in notes["inputs"].items():
-            self.reader.load(name, kept)
-        self.chain.load(notes)
+        self.chain = Chain.of(notes)
         self.rejected = notes.get("rejected", 0)
         if "rejected_size" in notes:
             self.store.cut_rejected(notes["rejected_size"])
         for source in self.sources.values():
             source.line = self.chain.count
         self.compare_files()
-        lines, size = self.store.logged()
-        self.store.open_log(size)
-        for line in lines:
+        for line in self.store.logged():
             self.take(line)
         return True
 
-    def check(self, notes: Taken) -> None:
-        """Rejects options and files other than those that the last session was run with, before anything in the folder is changed."""
+    def load(self, notes: Taken) -> None:
+        """Takes up the inputs. Options and files other than those that the last session was run with are rejected, before anything in the
+        folder is changed."""
         state = self.words.state
         for name, kept in notes["inputs"].items():
             if self.sources[name].fixed != ("handed" in kept):
@@ -626,9 +582,9 @@ class Follower:
             self.reader.check(state, notes["shape"])
         for name, kept in notes["inputs"].items():
             if "handed" in kept:
-                self.sources[name].check(state, kept, int(self.store.cut))
-            elif kept["converter"] is not None and self.reader.clock is None:
-                raise Refused("readings were taken before: --tick and --origin, or --like, are needed again")
+                self.sources[name].load(state, kept, int(self.store.cut))
+            else:
+                self.reader.load(name, kept)
         if self.store.cut != "begin" and "shape" not in notes:
             note(
                 f"{state} is of an earlier version, which kept neither options nor digests of files: make sure that this call has those "
@@ -654,7 +610,7 @@ class Follower:
                 raise BadLine(f"a line of at most {LONGEST} bytes was expected")
             self.reader.take(line.decode("utf-8", "replace"), self.chain.count)
         except BadLine as error:
-            what = f"line {self.chain.count}: {error}: {shortened(shown(line))}"
+            what = f"line {self.chain.count}: {error}: {shown(line, 200)}"
             if not self.words.skip_bad:
                 raise Refused(f"{what}; --skip-bad writes such lines to rejected.log and goes on") from error
             self.rejected += 1
@@ -667,27 +623,34 @@ class Follower:
         return None if None in reached else min(tick for tick in reached if tick is not None)
 
     def session(self) -> None:
-        """A session up to the cut, where that has gone on; the last one if the query's output ends there."""
+        """A session up to the cut, where that has gone on; the last one if all rows of the query's output are decided there."""
         self.fresh = 0
         cut = self.cut()
-        if cut is not None and self.is_over(cut):
+        if cut is None:
+            return
+        if self.over is not None and cut >= self.over + self.explained.ahead:
             self.end()
             note(f"the query's `over` has ended at {self.over}: no more rows come")
-            return
-        if cut is not None and (self.store.cut == "begin" or cut > int(self.store.cut)):
+        elif self.store.cut == "begin" or cut > int(self.store.cut):
             self.hand_on(cut)
             self.warn_of_files(cut)
 
-    def is_over(self, cut: int) -> bool:
-        """Whether all rows of the query's output are decided at this cut."""
-        return self.over is not None and cut >= self.over + self.explained.ahead
-
     def hand_on(self, cut: int | None) -> None:
-        """A session up to a cut, or the last one."""
-        binds = sessions.put_rows(self.store.folder, {name: source.hand(cut) for name, source in self.sources.items()})
-        state = None if self.store.cut == "begin" else self.store.path("state")
-        sessions.session(self.query, state, binds, cut, self.store.new("state"), self.store.new("part"))
-        self.counts("end" if cut is None else str(cut))
+        """A session up to the cut of each input, or the last one. What it decided is printed."""
+        store, sources = self.store, self.sources
+        paths = {name: sessions.put_rows(store.folder, name, source.hand(cut)) for name, source in sources.items()}
+        state = None if store.cut == "begin" else store.path("state")
+        cuts = {name: cut if source.fixed or source.reached is None else source.reached for name, source in sources.items()}
+        upto = {name: one for name, one in cuts.items() if one is not None and cut is not None} or None
+        sessions.session(self.query, state, paths, upto, store.new("state"), store.new("part"))
+        inputs = {name: source.dump() for name, source in sources.items()}
+        kept = {**self.chain.dump(), "inputs": inputs, "shape": self.reader.shape(), "rejected": self.rejected}
+        part = store.commit("end" if cut is None else str(cut), kept)
+        if cut is not None:
+            store.open_log(0)
+        if not self.words.quiet:
+            with writing(None) as out:
+                out.write(part.decode("ascii"))
 
     def end(self) -> None:
         """The last session, over all that is left."""
@@ -695,30 +658,21 @@ class Follower:
         self.hand_on(None)
         self.ended = True
 
-    def counts(self, cut: str) -> None:
-        """The session that was run counts from here on, and what it decided is printed."""
-        inputs = {name: source.dump() for name, source in self.sources.items()}
-        self.store.commit(cut, {**self.chain.dump(), "inputs": inputs, "shape": self.reader.shape(), "rejected": self.rejected})
-        part = self.store.bring_up()
-        if cut != "end":
-            self.store.open_log(0)
-        if not self.words.quiet:
-            with writing(None) as out:
-                out.write(part.decode("ascii"))
-
     def warn(self) -> None:
-        """Says, so that silence is explained, which inputs hold the output back; of each once until it goes on."""
+        """Says, so that silence is explained, which inputs hold the output back; of each once until it goes on. They are those of which no
+        line came while lines of others came, or time passed."""
         cut = self.cut()
-        known = {name: source.reached for name, source in self.sources.items() if not source.fixed and source.reached is not None}
+        coming = {name: source for name, source in self.sources.items() if not source.fixed}
+        known = {name: source.reached for name, source in coming.items() if source.reached is not None}
         if not known:
             return
         first = max(known, key=lambda name: known[name])
+        silent = time.monotonic() - max(QUIET_SECONDS, self.every)
         late = [
             name
-            for name, source in self.sources.items()
-            if not source.fixed
-            and source.reached == cut != known[first]
-            and self.is_quiet(source)
+            for name, source in coming.items()
+            if source.reached == cut != known[first]
+            and (self.chain.count - source.line >= QUIET_LINES or source.came <= silent)
             and not (name in self.warned and self.warned[name] == cut)
         ]
         if late:
@@ -735,11 +689,6 @@ class Follower:
                 what = "it has no rows" if last is None else f"its rows end at {self.reader.text(last)}"
                 note(f"{source.path}: {what}: {name} is null from there on")
 
-    def is_quiet(self, source: Source) -> bool:
-        """Whether lines of others came, or time passed, and no line of this input."""
-        passed = time.monotonic() - source.came
-        return self.chain.count - source.line >= QUIET_LINES or passed >= max(QUIET_SECONDS, self.every)
-
     def follow(self, number: int) -> None:
         """Takes what comes on a descriptor until its end, or that of the query's output."""
         passing = Passing(self.chain, self.words.state) if self.words.again else None
@@ -749,12 +698,15 @@ class Follower:
                 "starts with the same first line"
             )
         due = time.monotonic() + self.every
-        for chunk in chunks(number, lambda: due, self.words.end):
-            lines = chunk if passing is None else passing.rest(chunk)
+        for lines in chunks(number, lambda: due, self.words.end):
+            lines = lines if passing is None else passing.rest(lines)
             while not self.ended:
                 most = len(lines) if self.words.rows is None else max(1, self.words.rows - self.fresh)
                 some, lines = lines[:most], lines[most:]
-                self.take_all(some)
+                # They are in the log before they are taken.
+                self.store.put_log(some)
+                for line in some:
+                    self.take(line)
                 if self.words.rows is not None and self.fresh >= self.words.rows or time.monotonic() >= due:
                     self.session()
                     if not self.ended:
@@ -766,12 +718,6 @@ class Follower:
                 return
         if passing is not None:
             passing.finish()
-
-    def take_all(self, lines: list[bytes]) -> None:
-        """Takes lines, which are written to the log first."""
-        self.store.put_log(b"".join(line + b"\n" for line in lines))
-        for line in lines:
-            self.take(line)
 
 
 class Lines:
@@ -817,7 +763,7 @@ def chunks(number: int, due: Any, ended: bool) -> Iterator[list[bytes]]:
             if rest and ended:
                 yield [rest.rstrip(b"\r")]
             elif rest:
-                note(f"the last line has no end, and isn't taken without --end: {shortened(shown(rest))}")
+                note(f"the last line has no end, and isn't taken without --end: {shown(rest, 200)}")
             return
         yield list(lines.cut(text))
 
@@ -826,25 +772,21 @@ def main(words: argparse.Namespace) -> int:
     if words.rows is not None and words.rows < 1:
         raise Refused("--rows: 1 or more was expected")
     try:
-        follow(words)
+        follower = Follower(words)
+        if not follower.begin():
+            note(f"{words.state} was ended before: {follower.store.output} has all")
+            return 0
+        if sys.stdin is None:
+            raise Refused("standard input: it is closed")
+        follower.follow(sys.stdin.fileno())
+        if not follower.ended:
+            follower.session()
+        if words.end and not follower.ended:
+            follower.end()
+        elif not follower.ended:
+            follower.warn()
     except BrokenPipeError:
         raise
     except OSError as error:
         raise Refused(f"{error.filename or words.state}: {error.strerror or error}") from error
     return 0
-
-
-def follow(words: argparse.Namespace) -> None:
-    follower = Follower(words)
-    if not follower.begin():
-        note(f"{words.state} was ended before: {follower.store.output} has all")
-        return
-    if sys.stdin is None:
-        raise Refused("standard input: it is closed")
-    follower.follow(sys.stdin.fileno())
-    if not follower.ended:
-        follower.session()
-    if words.end and not follower.ended:
-        follower.end()
-    elif not follower.ended:
-        follower.warn()

@@ -7,7 +7,6 @@ from __future__ import annotations
 import contextlib
 import dataclasses
 import functools
-import itertools
 import os
 import pathlib
 import re
@@ -19,17 +18,16 @@ from typing import TYPE_CHECKING, Any, Callable, Iterable, Iterator, Literal, Ma
 from . import sessions
 from .clock import TIMES, Clock, duration_of, duration_text, moment_text
 from .convention import Convention, Options, check_flag, check_one_of, convention_of, moment_read
-from .convert import Converter, Late, Tie
+from .convert import Converter
 from .degrees import scale_notes
 from .errors import Refused, TiltError
 from .explain import Explained
 from .files import HEADER, Notes, Outputs, Row, check_replaceable, notes_of, notes_path, reading, safe
-from .keys import APART, Alone, Batches, Column, Readings, readings_by_key
+from .keys import APART, Alone, Batches, readings_by_key
 from .over import Extent, Over, cut_note, edges_of, over_of
 from .program import REFUSALS
-from .rows import AT_ONCE, RowArrays, Unordered, is_within, output_of, rows_in, rows_of_intervals, rows_of_readings
-from .scales import Scale
-from .whole import digits_in, in_python, texts_of, whole_numbers
+from .rows import RowArrays, Unordered, fits, output_of, rows_in, rows_pushed
+from .whole import digits_in, whole_numbers
 
 if TYPE_CHECKING:
     import pandas
@@ -113,8 +111,7 @@ class Query:
             if len(taken.extents) == len(taken.files):
                 self.warn_of_scale(convention, scale)
             moved = self.over_in(taken, look.over)
-            binds = [f"{name}={taken.files[name]}" for name in self.inputs]
-            rows = self.rows_of_run(folder, moved, binds)
+            rows = self.rows_of_run(folder, moved, {name: taken.files[name] for name in self.inputs})
         own = taken.over if moved is None else over_of(moved)
         return shape.frame(rows if own is None else look.kept(rows, own.start, own.end), look)
 
@@ -129,11 +126,11 @@ class Query:
             warn(cut_note(taken.over, taken.extents))
         return None
 
-    def rows_of_run(self, folder: str, text: str | None, binds: list[str]) -> RowArrays:
-        """What the program prints for the query, or for a text in its place, with these arguments; its files are in the folder."""
+    def rows_of_run(self, folder: str, text: str | None, files: dict[str, str]) -> RowArrays:
+        """What the program prints for the query, or for a text in its place, over these files; its own are in the folder."""
         path, out = self.put(folder, text), os.path.join(folder, "out.csv")
         try:
-            sessions.whole(path, binds, out)
+            sessions.session(path, None, files, None, "", out)
         except TiltError as error:
             raise error.renamed(path, self.name) from None
         return output_of(out)
@@ -173,39 +170,39 @@ class Query:
         if own is None or own.common is None or not len(keys.keys):
             raise Alone
         bounds, order = readings_by_key(keys.numbers, len(keys.keys))
-        explained = self.explain()
-        moments = moments_of(data.index, "the index")
-        clocks = [clock] * len(keys.keys)
-        readings = Readings(
-            moments if order is None else moments[order],
-            {name: self.column(name, data[name] if order is None else data[name].iloc[order], convention, clock) for name in self.inputs},
-            bounds,
-        )
+        explained, moments = self.explain(), moments_of(data.index, "the index")
+        moments = moments if order is None else moments[order]
+        columns = {name: data[name] if order is None else data[name].iloc[order] for name in self.inputs}
+        values = {name: whole_numbers(name, one, convention.scale_of(name) or 1) for name, one in columns.items()}
+        parts = [slice(begin, end) for begin, end in zip(bounds, bounds[1:])]
+        clocks = [clock] * len(parts)
         if look.key_origin == "own":
-            clocks = [dataclasses.replace(clock, origin=midnight(first, shape.zone)) for first in readings.firsts()]
+            clocks = [dataclasses.replace(clock, origin=midnight(int(moments[part].min()), shape.zone)) for part in parts]
             if any((one.origin - clock.origin) % clock.tick for one in clocks):
                 raise Alone
-        reach = explained.back + APART, explained.ahead + APART
+
+        def rows_of(name: str, part: slice, clock: Clock) -> RowArrays:
+            numbers, known = values[name]
+            converter = Converter(clock, convention.rule(name, clock))
+            there = None if known is None else known[part]
+            return RowArrays.joined(rows_of_readings(name, converter, convention, moments[part], numbers[part], there))
+
+        rows = ({name: rows_of(name, part, one) for name in self.inputs} for part, one in zip(parts, clocks))
         with tempfile.TemporaryDirectory(prefix="tilt-data-") as folder:
-            batches = Batches(functools.partial(self.run_over, folder, own), reach, own, look.over == "data", {})
-            outputs = [look.kept(rows, one.start, one.end) for one, rows in batches.outputs(readings, clocks)]
+            reach = explained.back + APART, explained.ahead + APART
+            batches = Batches(functools.partial(self.run_over, folder, own), reach, own, look.over == "data")
+            outputs = [look.kept(output, one.start, one.end) for one, output in batches.outputs(rows)]
         if look.over is None:
             warn(cut_note(own, batches.extents))
         shifts = [(one.origin - clock.origin) // clock.tick for one in clocks]
-        return shape.keyed(keys, [rows.moved(shift) for rows, shift in zip(outputs, shifts)], look)
-
-    def column(self, name: str, series: Any, convention: Convention, clock: Clock) -> Column:
-        """An input of all keys, which has a scale by now."""
-        values, known = whole_numbers(name, series, convention.scale_of(name) or 1)
-        rule, skips_empty = convention.rule(name, clock), convention.skips_empty(name)
-        return Column(values, known, rule, skips_empty, lambda converter: final_row(name, converter, convention))
+        return shape.keyed(keys, [output.moved(shift) for output, shift in zip(outputs, shifts)], look)
 
     def run_over(self, folder: str, own: Over, rows: dict[str, RowArrays], over: tuple[int, int]) -> RowArrays:
         """What the query gives over other ticks."""
         taken = Inputs(folder, None)
         for name, one in rows.items():
             taken.take(name, one.blocks())
-        return self.rows_of_run(folder, own.moved(self.text, *over), [f"{name}={path}" for name, path in taken.files.items()])
+        return self.rows_of_run(folder, own.moved(self.text, *over), taken.files)
 
     def warn_of_scale(self, convention: Convention, scale: int) -> None:
         """Warns if the data have a scale that the caller didn't give, and it changes what the query means."""
@@ -398,15 +395,6 @@ def moments_of(index: Any, what: str) -> Any:
     return index.asi8
 
 
-def whole_values(name: str, series: Any, scale: int) -> list[int | None]:
-    """The values of a Series times the scale, one by one: `whole_numbers` has them as an array."""
-    read = Scale(scale)
-    try:
-        return [None if text is None else read.whole(text) for text in texts_of(series)]
-    except ValueError as error:
-        raise Refused(f"the input {name}: {in_python(str(error))}") from error
-
-
 def auto_scale(series: Mapping[str, Any]) -> int:
     """The smallest power of ten that makes all values whole."""
     return int(10 ** max((digits_in(name, one) for name, one in series.items()), default=0))
@@ -520,14 +508,14 @@ class Inputs:
 
     def take(self, name: str, parts: Iterable[RowArrays]) -> None:
         """Writes the rows of a Series."""
-        path = os.path.join(self.folder, f"rows.{name}.csv")
-        extent = Extent(self.over)
-        with sessions.opened(path) as file:
-            file.write((",".join(HEADER) + "\n").encode())
+        self.extents[name] = extent = Extent(self.over)
+
+        def texts() -> Iterator[bytes]:
             for part in parts:
-                file.write(part.text())
                 extent.add(part)
-        self.files[name], self.extents[name] = path, extent
+                yield part.text()
+
+        self.files[name] = sessions.put_rows(self.folder, name, texts())
 
     def all_extents(self) -> list[Extent]:
         """How far the rows of all inputs reach: those of files are read for it."""
@@ -673,108 +661,75 @@ def starts_of(name: str, index: Any) -> Any:
 
 
 def arrays_of(name: str, series: Any, clock: Clock, convention: Convention, scale: int) -> Iterator[RowArrays]:
-    """The rows of a Series, many at a time. They are those of `rows_from`, and so is what is rejected."""
+    """The rows of a Series, many at a time."""
     import pandas
 
     values, known = whole_numbers(name, series, scale)
-    moments = starts_of(name, series.index)
     if isinstance(series.index, pandas.IntervalIndex):
-        check_closed(name, series.index, clock)
-        rows = rows_of_intervals(clock, moments, moments_of(series.index.right, f"the input {name}"), values, known)
-        yield from one_by_one(name, series, clock, convention, scale) if rows is None else [rows]
+        yield rows_of_intervals(name, series.index, clock, values, known)
         return
-    rule = convention.rule(name, clock)
+    converter = Converter(clock, convention.rule(name, clock))
+    yield from rows_of_readings(name, converter, convention, moments_of(series.index, f"the input {name}"), values, known)
+
+
+def rows_of_readings(name: str, converter: Converter, convention: Convention, moments: Any, values: Any, known: Any) -> Iterator[RowArrays]:
+    """The rows of all readings of an input."""
+    yield from rows_of_some(name, converter, convention, moments, values, known)
+    yield final_row(name, converter, convention)
+
+
+def rows_of_some(name: str, converter: Converter, convention: Convention, moments: Any, values: Any, known: Any) -> Iterator[RowArrays]:
+    """The rows that readings of an input end."""
     if convention.skips_empty(name) and known is not None:
         moments, values, known = moments[known], values[known], None
-    if not is_within(clock, rule, moments):
-        yield from one_by_one(name, series, clock, convention, scale)
-        return
     try:
-        yield from rows_of_readings(clock, rule, moments, values, known, lambda converter: final_row(name, converter, convention))
+        for rows in rows_pushed(converter, moments, values, known):
+            yield within(name, rows)
     except Unordered as error:
-        raise (late if error.is_late else tied)(name, int(moments[error.place])) from error
+        at = moment_text(error.moment, 9)
+        what = f"two readings in one tick at {at}: ties='last', 'first' or 'spread', or a shorter tick"
+        if error.is_late:
+            what = f"the reading at {at} lies before the one before it: sort_index()"
+        raise Refused(f"the input {name}: {what}") from error
 
 
-def one_by_one(name: str, series: Any, clock: Clock, convention: Convention, scale: int) -> Iterator[RowArrays]:
-    """The rows of a Series as arrays, though a time or a tick may not be within 64 bits."""
-    rows = rows_from(name, series, clock, convention, scale)
-    while some := list(itertools.islice(rows, AT_ONCE)):
-        yield RowArrays.of(some)
+def final_row(name: str, converter: Converter, convention: Convention) -> RowArrays:
+    """The row of the last reading; none if there is no reading."""
+    row = converter.finish(None if convention.until is None else converter.clock.start(moment_read("until", convention.until)))
+    if row is not None and not -TIMES <= row[0] < row[1] <= TIMES:
+        raise beyond(name)
+    return RowArrays.of([] if row is None else [row])
 
 
-def rows_from(name: str, series: Any, clock: Clock, convention: Convention, scale: int) -> Iterator[Row]:
-    """The rows of a Series, one by one: of its intervals, or of its readings by the convention."""
-    converter = Converter(clock, convention.rule(name, clock))
-    yield from rows_pushed(name, series, converter, convention, scale)
-    final = final_row(name, converter, convention)
-    if final is not None:
-        yield final
+def within(name: str, rows: RowArrays) -> RowArrays:
+    """Rows with ticks that the program takes, as 64-bit integers."""
+    if len(rows) and not -TIMES <= rows.starts[0] <= rows.ends[-1] <= TIMES:
+        raise beyond(name)
+    return dataclasses.replace(rows, starts=rows.starts.astype("i8", copy=False), ends=rows.ends.astype("i8", copy=False))
 
 
-def rows_pushed(name: str, series: Any, converter: Converter, convention: Convention, scale: int) -> Iterator[Row]:
-    """The rows of the intervals of a Series, or those that its readings end."""
-    import pandas
-
-    values, clock = whole_values(name, series, scale), converter.clock
-    starts = starts_of(name, series.index).tolist()
-    if isinstance(series.index, pandas.IntervalIndex):
-        check_closed(name, series.index, clock)
-        for start, end, value in zip(starts, moments_of(series.index.right, f"the input {name}").tolist(), values):
-            yield within(name, (on_ticks(name, clock, start), on_ticks(name, clock, end), value))
-        return
-    for moment, value in zip(starts, values):
-        row = None if value is None and convention.skips_empty(name) else pushed(name, converter, moment, value)
-        if row is not None:
-            yield row
+def beyond(name: str) -> Refused:
+    return Refused(f"the input {name}: a time is more than {TIMES} ticks from the origin: a longer tick=, or a nearer origin=")
 
 
-def final_row(name: str, converter: Converter, convention: Convention) -> Row | None:
-    """The row of the last reading; None if there is no reading."""
-    row = converter.finish(until_of(converter.clock, convention))
-    return None if row is None else within(name, row)
-
-
-def until_of(clock: Clock, convention: Convention) -> int | None:
-    return None if convention.until is None else clock.start(moment_read("until", convention.until))
-
-
-def check_closed(name: str, index: Any, clock: Clock) -> None:
+def rows_of_intervals(name: str, index: Any, clock: Clock, values: Any, known: Any) -> RowArrays:
+    """The rows of intervals, whose ends have to be ends of ticks."""
     if index.closed != clock.closed:
         raise Refused(f"the input {name}: its intervals are closed {index.closed!r}, not {clock.closed!r}: closed= or index.set_closed()")
-
-
-def within(name: str, row: Row) -> Row:
-    """A row with ticks that the program takes."""
-    if not (-TIMES <= row[0] and row[1] <= TIMES):
-        raise Refused(f"the input {name}: a time is more than {TIMES} ticks from the origin: a longer tick=, or a nearer origin=")
-    return row
-
-
-def pushed(name: str, converter: Converter, moment: int, value: int | None) -> Row | None:
-    try:
-        row = converter.push(moment, value)
-    except Tie as error:
-        raise tied(name, moment) from error
-    except Late as error:
-        raise late(name, moment) from error
-    return None if row is None else within(name, row)
-
-
-def tied(name: str, moment: int) -> Refused:
-    """The error of a second reading in one tick."""
-    what = f"two readings in one tick at {moment_text(moment, 9)}: ties='last', 'first' or 'spread', or a shorter tick"
-    return Refused(f"the input {name}: {what}")
-
-
-def late(name: str, moment: int) -> Refused:
-    """The error of a reading before the one before it."""
-    return Refused(f"the input {name}: the reading at {moment_text(moment, 9)} lies before the one before it: sort_index()")
-
-
-def on_ticks(name: str, clock: Clock, moment: int) -> int:
-    if (moment - clock.origin) % clock.tick:
+    ends = [moments_of(edge, f"the input {name}") for edge in (index.left, index.right)]
+    extremes = [int(edge) - clock.origin for edges in ends if len(edges) for edge in (edges.min(), edges.max())]
+    if extremes and not fits(clock.tick, min(extremes), max(extremes)):
+        ends = [edges.astype(object) for edges in ends]
+    starts, stops = ((edges - clock.origin) // clock.tick for edges in ends)
+    off = [(edges - clock.origin) % clock.tick != 0 for edges in ends]
+    wrong = off[0] | off[1] | (starts < -TIMES) | (stops > TIMES)
+    if wrong.any():
+        at = int(wrong.argmax())
+        moment = next((int(edges[at]) for edges, is_off in zip(ends, off) if is_off[at]), None)
+        if moment is None:
+            raise beyond(name)
         raise Refused(f"the input {name}: the interval end {moment_text(moment, 9)} isn't on a tick: a shorter tick")
-    return (moment - clock.origin) // clock.tick
+    return RowArrays(starts.astype("i8"), stops.astype("i8"), values, known)
 
 
 # Sessions
@@ -782,34 +737,19 @@ def on_ticks(name: str, clock: Clock, moment: int) -> int:
 
 @dataclasses.dataclass
 class Taken:
-    """What was pushed and no session was handed yet: of each input the reading that is held back, the rows, and the tick up to which it is
+    """What was pushed, of each input: the reading that is held back, the rows that no session was given yet, and the tick up to which it is
     known. The zone is that of the first readings, which the output has too."""
 
     converters: dict[str, Converter]
-    held: dict[str, list[Row]]
-    reached: dict[str, int | None]
+    rows: dict[str, list[RowArrays]]
+    reached: dict[str, int]
     zone: Any = None
     zoned: bool = False
 
-    @staticmethod
-    def nothing(names: list[str], clock: Clock, convention: Convention) -> Taken:
-        converters = {name: Converter(clock, convention.rule(name, clock)) for name in names}
-        return Taken(converters, {name: [] for name in names}, {name: None for name in names})
-
     def copy(self) -> Taken:
         converters = {name: dataclasses.replace(converter) for name, converter in self.converters.items()}
-        held = {name: list(rows) for name, rows in self.held.items()}
-        return dataclasses.replace(self, converters=converters, held=held, reached=dict(self.reached))
-
-    def cut(self) -> int | None:
-        """The last tick that all inputs have reached."""
-        known = [tick for tick in self.reached.values() if tick is not None]
-        return min(known) if known and len(known) == len(self.reached) else None
-
-    def note_zone(self, index: Any) -> None:
-        zone = zone_in(index)
-        if not self.zoned and (len(index) or zone is not None):
-            self.zone, self.zoned = zone, True
+        rows = {name: list(parts) for name, parts in self.rows.items()}
+        return dataclasses.replace(self, converters=converters, rows=rows, reached=dict(self.reached))
 
 
 class Live:
@@ -820,10 +760,10 @@ class Live:
         if convention.origin is None or any(convention.scale_of(name) is None for name in query.inputs):
             raise Refused("a run by sessions needs its origin and its scale beforehand: origin='2026-03-01', scale=10")
         convention.check_names(query.inputs)
-        self.query = query
-        self.convention = convention
+        self.query, self.convention = query, convention
         self.clock, self.scale = shape_of({}, {}, convention)
-        self.taken = Taken.nothing(query.inputs, self.clock, convention)
+        converters = {name: Converter(self.clock, convention.rule(name, self.clock)) for name in query.inputs}
+        self.taken = Taken(converters, {name: [] for name in query.inputs}, {})
         self.done: int | None = None
         self.folder = tempfile.TemporaryDirectory(prefix="tilt-data-")
 
@@ -839,13 +779,13 @@ class Live:
         readings."""
         before, taken = self.taken, self.going().copy()
         for name, series in {**frame_inputs(data, self.query.inputs), **inputs}.items():
-            if name not in taken.held:
+            if name not in taken.rows:
                 raise Refused(f"the query reads {', '.join(self.query.inputs)}: not {name}")
             self.take(taken, name, series)
         self.taken = taken
-        cut = taken.cut()
-        if cut is None or self.done is not None and cut <= self.done:
-            return self.frame([])
+        cut = min(taken.reached.values(), default=0)
+        if len(taken.reached) < len(taken.rows) or self.done is not None and cut <= self.done:
+            return self.frame(RowArrays.of([]))
         try:
             return self.frame(self.session(taken, cut))
         except TiltError as error:
@@ -863,51 +803,53 @@ class Live:
 
         if not isinstance(series, pandas.Series):
             raise Refused(f"the input {name}: a Series was expected, not {type(series).__name__}")
-        taken.note_zone(series.index)
+        if not taken.zoned and (len(series) or zone_in(series.index) is not None):
+            taken.zone, taken.zoned = zone_in(series.index), True
+        values, known = whole_numbers(name, series, self.convention.scale_of(name) or self.scale)
+        if isinstance(series.index, pandas.IntervalIndex):
+            rows = rows_of_intervals(name, series.index, self.clock, values, known)
+            self.check_order(name, rows, taken.reached.get(name))
+            taken.reached |= {name: int(rows.ends[-1])} if len(rows) else {}
+            taken.rows[name].append(rows)
+            return
         converter = taken.converters[name]
-        has_rows = isinstance(series.index, pandas.IntervalIndex)
-        for row in rows_pushed(name, series, converter, self.convention, self.convention.scale_of(name) or self.scale):
-            if has_rows:
-                self.check_order(name, row, taken.reached[name])
-                taken.reached[name] = row[1]
-            taken.held[name].append(row)
-        if not has_rows and converter.moment is not None:
-            taken.reached[name] = converter.start
+        moments = moments_of(series.index, f"the input {name}")
+        taken.rows[name] += rows_of_some(name, converter, self.convention, moments, values, known)
+        taken.reached |= {} if converter.moment is None else {name: converter.start}
 
-    def check_order(self, name: str, row: Row, before: int | None) -> None:
-        """The program may be handed a row long after the push that it came with, so that its order is looked at here."""
-        if row[0] >= row[1] or before is not None and row[0] < before:
-            what = "is empty, or begins before the one before it ends: sort_index()"
-            raise Refused(f"the input {name}: the interval at {moment_text(self.clock.moment(row[0]), 9)} {what}")
+    def check_order(self, name: str, rows: RowArrays, before: int | None) -> None:
+        """Rejects rows that aren't in order: a session that fails for them would take nothing of any input."""
+        import numpy
 
-    def frame(self, rows: list[Row]) -> pandas.DataFrame:
-        return Shape(self.clock, self.taken.zone, int(self.convention.output_scale or self.scale)).frame(RowArrays.of(rows))
+        first = rows.starts[:1] if before is None else numpy.array([before])
+        wrong = (rows.starts >= rows.ends) | (rows.starts < numpy.concatenate([first, rows.ends])[: len(rows)])
+        if wrong.any():
+            at = moment_text(self.clock.moment(int(rows.starts[wrong.argmax()])), 9)
+            raise Refused(f"the input {name}: the interval at {at} is empty, or begins before the one before it ends: sort_index()")
 
-    def path(self, name: str) -> str:
-        return os.path.join(self.folder.name, name)
+    def frame(self, rows: RowArrays) -> pandas.DataFrame:
+        return Shape(self.clock, self.taken.zone, int(self.convention.output_scale or self.scale)).frame(rows)
 
-    def session(self, taken: Taken, cut: int | None) -> list[Row]:
-        """A session up to a cut, or the last one; the rows that it prints. Nothing is changed before it has come to its end."""
-        parted = {name: sessions.below(rows, cut) for name, rows in taken.held.items()}
-        binds = sessions.put_rows(self.folder.name, {name: handed for name, (handed, _) in parted.items()})
-        out, state, new = self.path("out"), self.path("state"), self.path("state.new")
-        sessions.session(self.query.put(self.folder.name), None if self.done is None else state, binds, cut, new, out)
-        lines = pathlib.Path(out).read_text().splitlines()
-        lines = lines[1:] if self.done is None else lines
-        rows: list[Row] = [(int(start), int(end), int(value)) for start, end, value in (line.split(",") for line in lines)]
+    def session(self, taken: Taken, cut: int | None) -> RowArrays:
+        """A session up to what each input has reached, the least of which is the cut, or the last one; the rows that it prints. Nothing is
+        changed before it has come to its end."""
+        out, state, new = (os.path.join(self.folder.name, name) for name in ("out", "state", "state.new"))
+        paths = {name: sessions.put_rows(self.folder.name, name, (part.text() for part in parts)) for name, parts in taken.rows.items()}
+        sessions.session(
+            self.query.put(self.folder.name), None if self.done is None else state, paths, None if cut is None else taken.reached, new, out
+        )
+        lines = pathlib.Path(out).read_text().splitlines()[self.done is None :]
+        rows = RowArrays.of((int(start), int(end), int(value)) for start, end, value in (line.split(",") for line in lines))
         if cut is not None:
             os.replace(new, state)
-        self.taken, self.done = dataclasses.replace(taken, held={name: left for name, (_, left) in parted.items()}), cut
+        self.taken, self.done = dataclasses.replace(taken, rows={name: [] for name in taken.rows}), cut
         return rows
 
     def end(self) -> pandas.DataFrame:
         """The last session, over what is left. Where it fails nothing is changed, and it may be called again."""
         taken = self.going().copy()
-        until = until_of(self.clock, self.convention)
         for name, converter in taken.converters.items():
-            row = converter.finish(until)
-            if row is not None:
-                taken.held[name].append(within(name, row))
+            taken.rows[name].append(final_row(name, converter, self.convention))
         frame = self.frame(self.session(taken, None))
         self.folder.cleanup()
         return frame

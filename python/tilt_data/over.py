@@ -3,6 +3,7 @@ from __future__ import annotations
 
 import dataclasses
 import math
+from typing import Iterable
 
 from .forms import fault_of
 from .grammar import statements_of
@@ -62,6 +63,12 @@ class Extent:
     first: int | None = None
     last: int | None = None
 
+    @staticmethod
+    def of(part: RowArrays) -> Extent:
+        extent = Extent()
+        extent.add(part)
+        return extent
+
     def add(self, part: RowArrays) -> None:
         """Counts some rows."""
         if not len(part):
@@ -74,10 +81,10 @@ class Extent:
             self.outside += int(((part.ends <= self.over.start) | (part.starts >= self.over.end)).sum())
 
 
-def edges_of(extents: list[Extent]) -> tuple[int, int] | None:
+def edges_of(extents: Iterable[Extent]) -> tuple[int, int] | None:
     """The ticks over which any of these have rows; None if none has."""
-    firsts, lasts = [one.first for one in extents if one.first is not None], [one.last for one in extents if one.last is not None]
-    return (min(firsts), max(lasts)) if firsts and lasts else None
+    edges = [(one.first, one.last) for one in extents if one.first is not None and one.last is not None]
+    return (min(first for first, _ in edges), max(last for _, last in edges)) if edges else None
 
 
 def cut_note(over: Over, extents: dict[str, Extent]) -> str | None:

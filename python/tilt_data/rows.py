@@ -1,17 +1,17 @@
 """The rows of a Series as arrays, by the conventions of `convert.py`, many at a time; and the rows of a file.
 
-Ticks are 64-bit integers. If a time or a tick could be beyond the program's range, there are no arrays, and `frames.rows_from` converts the
-readings one by one: it says what is wrong."""
+Ticks are 64-bit integers. If a time or a tick could be beyond the program's range, the arrays hold Python's integers until the caller has
+found which row is."""
 from __future__ import annotations
 
 import dataclasses
 import decimal
 import itertools
-from typing import IO, Any, Callable, Iterable, Iterator
+from typing import IO, Any, Iterable, Iterator
 
 from . import digits
-from .clock import TIMES, Clock
-from .convert import Converter, Rule
+from .clock import TIMES
+from .convert import Converter
 from .files import HEADER, Row, reading, rows_of
 from .scales import decimal_text
 
@@ -38,7 +38,6 @@ class RowArrays:
 
     @staticmethod
     def of(rows: Iterable[Row]) -> RowArrays:
-        """The arrays of rows."""
         import numpy
 
         there = list(rows)
@@ -67,12 +66,18 @@ class RowArrays:
 
     def blocks(self) -> Iterator[RowArrays]:
         """The rows, some at a time."""
-        for at in range(0, len(self), AT_ONCE):
-            yield self.some(slice(at, at + AT_ONCE))
+        return (self.some(slice(at, at + AT_ONCE)) for at in range(0, len(self), AT_ONCE))
 
     def moved(self, ticks: int) -> RowArrays:
         """The rows so many ticks later."""
         return RowArrays(self.starts + ticks, self.ends + ticks, self.values, self.known) if ticks else self
+
+    def clipped(self, low: int, high: int) -> RowArrays:
+        """The parts of the rows, which are in order, that lie in `(low, high]`."""
+        import numpy
+
+        near = self.some(slice(int(self.ends.searchsorted(low, "right")), int(self.starts.searchsorted(high, "left"))))
+        return RowArrays(numpy.maximum(near.starts, low), numpy.minimum(near.ends, high), near.values, near.known)
 
     def merged(self) -> RowArrays:
         """The rows with equal neighbours as one row."""
@@ -84,8 +89,8 @@ class RowArrays:
         if self.known is not None:
             same = same & self.known[:-1] & self.known[1:] | ~self.known[:-1] & ~self.known[1:]
         changes = ~(same & (self.ends[:-1] == self.starts[1:]))
-        first, last = numpy.insert(changes, 0, True), numpy.append(changes, True)
-        return RowArrays(self.starts[first], self.ends[last], self.values[first], None if self.known is None else self.known[first])
+        first = self.some(numpy.insert(changes, 0, True))
+        return dataclasses.replace(first, ends=self.ends[numpy.append(changes, True)])
 
     def filled(self, start: int, end: int) -> RowArrays:
         """The rows, which lie in `(start, end]` in order, with a row without a value for each gap between them and at both ends."""
@@ -121,133 +126,68 @@ class RowArrays:
 
 
 class Unordered(ValueError):
-    """A reading that the convention rejects: its place, and whether it lies before the one before it, or in its tick."""
+    """A reading that the convention rejects: its moment, and whether it lies before the one before it, or in its tick."""
 
-    def __init__(self, place: int, is_late: bool) -> None:
-        super().__init__(place)
-        self.place = place
-        self.is_late = is_late
-
-
-def is_within(clock: Clock, rule: Rule, moments: Any) -> bool:
-    """Whether each row of readings at these moments certainly is within the times that the program takes, and 64 bits hold all on the way
-    there."""
-    if not len(moments):
-        return True
-    first, last = int(moments.min()) - clock.origin, int(moments.max()) - clock.origin
-    most = last // clock.tick + len(moments) + max(1, rule.max_age or 0)
-    return -(2**63) < first and last < 2**63 and clock.tick < 2**63 and -TIMES <= first // clock.tick - 1 and most <= TIMES
+    def __init__(self, moment: int, is_late: bool) -> None:
+        super().__init__(moment)
+        self.moment, self.is_late = moment, is_late
 
 
-def starts_of_moments(clock: Clock, moments: Any) -> Any:
-    """The starts of the rows of one tick that moments lie in, as `Clock.start` has them."""
-    since = moments - clock.origin
-    return since // clock.tick if clock.closed == "left" else -(-since // clock.tick) - 1
+def fits(tick: int, least: int, greatest: int) -> bool:
+    """Whether 64 bits hold all that is on the way from moments to ticks, which are within the times that the program takes. Moments are
+    from the origin on."""
+    return -(2**63) < least and greatest < 2**63 and tick < 2**63 and -TIMES <= least // tick - 1 and greatest // tick <= TIMES
 
 
-def rows_of_readings(
-    clock: Clock, rule: Rule, moments: Any, values: Any, known: Any, finish: Callable[[Converter], Row | None]
-) -> Iterator[RowArrays]:
-    """The rows that `Converter` makes of readings which `is_within` accepts; `finish` makes the last one. What the rule rejects is
-    `Unordered`.
+def rows_pushed(converter: Converter, moments: Any, values: Any, known: Any) -> Iterator[RowArrays]:
+    """The rows that readings end, as `Converter.push` has them; the last reading is held back. What the rule rejects is `Unordered`, after
+    the rows before it.
 
     `moments` are in nanoseconds, `values` whole numbers, and `known` is False where there is none, or None.
     """
-    held = Held(rule)
+    import numpy
+
+    clock, rule = converter.clock, converter.rule
+    if len(moments):
+        least, greatest = int(moments.min()) - clock.origin, int(moments.max()) - clock.origin
+        most = max(greatest, converter.start * clock.tick) + (len(moments) + max(1, rule.max_age or 0)) * clock.tick
+        moments = moments if fits(clock.tick, least, greatest) and most // clock.tick <= TIMES else moments.astype(object)
     for at in range(0, len(moments), AT_ONCE):
         part = slice(at, at + AT_ONCE)
-        some = moments[part]
-        place = late_place(moments, part)
-        starts = starts_of_moments(clock, some)
-        if rule.ties == "refuse":
-            tie = held.tie_place(starts)
-            if tie is not None and (place is None or at + tie < place):
-                raise Unordered(at + tie, False)
-        if place is not None:
-            raise Unordered(place, True)
-        yield held.take(starts, values[part], None if known is None else known[part])
-    if held.last is not None:
-        start, value = held.last
-        row = finish(Converter(clock, rule, int(moments[-1]), start, value))
-        yield RowArrays.of([] if row is None else [row])
+        some, own, there = moments[part], values[part], None if known is None else known[part]
+        since = some - clock.origin
+        starts = since // clock.tick if clock.closed == "left" else -(-since // clock.tick) - 1
+        if converter.moment is not None:
+            held = (converter.moment, some), (converter.start, starts), (converter.value or 0, own)
+            some, starts, own = (numpy.concatenate([numpy.array([one], more.dtype), more]) for one, more in held)
+            if there is not None or converter.value is None:
+                there = numpy.concatenate([[converter.value is not None], numpy.ones(len(own) - 1, bool) if there is None else there])
+        late = some[1:] < some[:-1]
+        wrong = late | (starts[1:] <= starts[:-1]) if rule.ties == "refuse" else late
+        end = 1 + int(wrong.argmax()) if wrong.any() else len(some)
+        yield rows_ended(converter, int(some[end - 1]), starts[:end], own[:end], None if there is None else there[:end])
+        if end < len(some):
+            raise Unordered(int(some[end]), bool(late[end - 1]))
 
 
-def late_place(moments: Any, part: slice) -> int | None:
-    """The first place of a part whose moment lies before the one before it."""
-    from_before = max(0, part.start - 1)
-    some = moments[from_before : part.stop]
-    late = some[1:] < some[:-1]
-    return from_before + 1 + int(late.argmax()) if late.any() else None
+def rows_ended(converter: Converter, moment: int, starts: Any, values: Any, known: Any) -> RowArrays:
+    """The rows of readings that start at these ticks, in order, but the last one, which is at this moment: it is held back."""
+    import numpy
 
-
-@dataclasses.dataclass
-class Held:
-    """What is kept from one part of the readings to the next: the start and the value of the last row, whose end isn't known."""
-
-    rule: Rule
-    last: tuple[int, int | None] | None = None
-
-    def tie_place(self, starts: Any) -> int | None:
-        """The first place of a reading that doesn't lie in a later tick than the one before it."""
-        if self.last is not None and starts[0] <= self.last[0]:
-            return 0
-        tie = starts[1:] <= starts[:-1]
-        return 1 + int(tie.argmax()) if tie.any() else None
-
-    def take(self, starts: Any, values: Any, known: Any) -> RowArrays:
-        """The rows that are ended by readings which start at these ticks, in order, and the row before them."""
-        import numpy
-
-        if self.last is not None:
-            start, value = self.last
-            starts, values = numpy.concatenate([[start], starts]), numpy.concatenate([[value or 0], values])
-            if known is not None or value is None:
-                known = numpy.concatenate([[value is not None], numpy.ones(len(starts) - 1, bool) if known is None else known])
-        if self.rule.ties == "spread":
-            places = numpy.arange(len(starts))
-            starts = numpy.maximum.accumulate(starts - places) + places
-        else:
-            starts, values, known = self.settled(starts, values, known)
-        self.last = int(starts[-1]), None if known is not None and not known[-1] else int(values[-1])
-        ends = self.ends(starts)
-        return RowArrays(starts[:-1], ends, values[:-1], None if known is None or known[:-1].all() else known[:-1])
-
-    def settled(self, starts: Any, values: Any, known: Any) -> tuple[Any, Any, Any]:
-        """One reading for each tick: the first or the last."""
-        import numpy
-
-        changes = starts[1:] != starts[:-1]
-        if changes.all():
-            return starts, values, known
-        counts = numpy.append(changes, True) if self.rule.ties == "last" else numpy.insert(changes, 0, True)
-        return starts[counts], values[counts], None if known is None else known[counts]
-
-    def ends(self, starts: Any) -> Any:
-        """The ends of all rows but the last."""
-        import numpy
-
-        if not self.rule.hold:
-            return starts[:-1] + 1
-        return starts[1:] if self.rule.max_age is None else numpy.minimum(starts[:-1] + self.rule.max_age, starts[1:])
-
-
-# Intervals
-
-
-def rows_of_intervals(clock: Clock, starts: Any, ends: Any, values: Any, known: Any) -> RowArrays | None:
-    """The rows of intervals, of the moments of their ends. None if one isn't on a tick, or could be beyond the program's range."""
-    edges = [int(edge) - clock.origin for moments in (starts, ends) if len(moments) for edge in (moments.min(), moments.max())]
-    if not edges:
-        return RowArrays(starts, ends, values, known)
-    if clock.tick >= 2**63 or any(not -(2**63) <= edge < 2**63 or abs(edge // clock.tick) > TIMES for edge in edges):
-        return None
-    since, until = starts - clock.origin, ends - clock.origin
-    if (since % clock.tick).any() or (until % clock.tick).any():
-        return None
-    return RowArrays(since // clock.tick, until // clock.tick, values, known)
-
-
-# Files
+    rule = converter.rule
+    if rule.ties == "spread":
+        places = numpy.arange(len(starts))
+        starts = numpy.maximum.accumulate(starts - places) + places
+    changes = starts[1:] != starts[:-1]
+    if not changes.all():
+        counts = numpy.append(changes, True) if rule.ties == "last" else numpy.insert(changes, 0, True)
+        starts, values, known = starts[counts], values[counts], None if known is None else known[counts]
+    converter.moment, converter.start = moment, int(starts[-1])
+    converter.value = None if known is not None and not known[-1] else int(values[-1])
+    ends = starts[1:] if rule.hold else starts[:-1] + 1
+    if rule.hold and rule.max_age is not None:
+        ends = numpy.minimum(starts[:-1] + rule.max_age, ends)
+    return RowArrays(starts[:-1], ends, values[:-1], None if known is None or known[:-1].all() else known[:-1])
 
 
 def rows_in(path: str, file: IO[str]) -> Iterator[RowArrays]:
