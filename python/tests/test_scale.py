@@ -1082,8 +1082,12 @@ def test_small_keys_on_a_disk_that_is_full_are_made_alone(here, monkeypatch):
     for key in range(70):
         pathlib.Path(f"k{key}.csv").write_text(text_of([(0, 5, key)]))
 
-    def full(_: object) -> None:
-        raise OSError(errno.ENOSPC, "No space left on device")
+    commit = tasks.Together.commit
+
+    def full(together: tasks.Together) -> None:
+        if len(together.begun) > 1:
+            raise OSError(errno.ENOSPC, "No space left on device")
+        commit(together)
 
     monkeypatch.setattr(tasks.Together, "commit", full)
     found = scale("input x; emit x over (0, 50];", {"x": "k{key}.csv"}, "out", workers=2)

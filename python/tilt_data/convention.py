@@ -10,7 +10,7 @@ from typing import Any, Iterable, Literal, Mapping, TypedDict, TypeVar, Union
 from .clock import TIMES, Clock, Moments, duration_of, duration_text, moment_text, zone_of
 from .convert import TIES, Rule
 from .errors import Refused
-from .files import Notes, notes_of, notes_path
+from .files import Notes, notes_of_like
 from .scales import scale_of
 
 Time = Union[str, datetime.date]
@@ -165,9 +165,7 @@ class TextConvention(Convention):
         """The convention that the options give."""
         if words.event and (words.hold or words.max_age or words.until):
             raise Refused("--event is a reading of one tick: --hold, --max-age and --until are for readings that hold")
-        like = None if words.like is None else notes_of(words.like)
-        if words.like is not None and like is None:
-            raise Refused(f"{words.like}: there is no {notes_path(words.like)} beside it; `tilt-data series` writes one")
+        like = None if words.like is None else notes_of_like(words.like)
         same = {name: getattr(words, name) for name in ("tick", "origin", "closed", "event", "until", "ties", "skip_empty", "unit", "zone")}
         null = frozenset(text for texts in words.null for text in texts.split(",") if text)
         scale = {name: factor_of(name, text) for name, text in named_once("--scale", words.scale).items()}

@@ -38,6 +38,8 @@ SYNCS = 16
 PENDING = b'{"tilt-data": 1, "pending": true}\n'
 # The signals that end a command.
 ENDING = (signal.SIGINT, signal.SIGTERM, signal.SIGHUP)
+# The texts of a JSON file that may be missing.
+DEFAULTS = {"kind": "hold", "name": "", "key": None, "zone": None, "sha256": None}
 # The conventions of a series.
 KINDS = ("hold", "event", "helper")
 # The folders of the files that a process was handed open.
@@ -73,10 +75,9 @@ def reading(path: str, shown: str | None = None, sha256: str | None = None, enco
 
 def standard_input() -> IO[str]:
     """Standard input; if the caller closed it, it is rejected."""
-    stream: IO[str] | None = sys.stdin
-    if stream is None:
+    if sys.stdin is None:
         raise Refused("standard input: it can't be read: it is closed")
-    return stream
+    return sys.stdin
 
 
 def undecodable(path: str) -> int | None:
@@ -150,12 +151,9 @@ def spooled(path: str, folder: str) -> str:
     if path != "-" and (os.path.isfile(path) or not os.path.exists(path)):
         return path
     copy = os.path.join(folder, "spooled")
-    with open(copy, "wb") as file:
-        if path == "-":
-            shutil.copyfileobj(standard_input().buffer, file)  # type: ignore[attr-defined]
-        else:
-            with open(path, "rb") as source:
-                shutil.copyfileobj(source, file)
+    with open(copy, "wb") as file, contextlib.ExitStack() as stack:
+        source = standard_input().buffer if path == "-" else stack.enter_context(open(path, "rb"))  # type: ignore[attr-defined]
+        shutil.copyfileobj(source, file)
     return copy
 
 
@@ -172,6 +170,9 @@ def unsafe(name: str) -> str:
     return text if safe(text) == name else name
 
 
+# Files that are written beside their names
+
+
 class Outputs:
     """Files that are written beside their names. All take their names at `commit`; without it they go away, and what was there before
     stays. `write` appends to what is held, and brings it to the files from time to time, so that many files need few handles.
@@ -185,13 +186,14 @@ class Outputs:
 
     def __init__(self, most: int = 100000) -> None:
         self.held: dict[str, list[str]] = {}
-        self.count = 0
-        self.most = most
+        self.count, self.most = 0, most
         self.begun: dict[str, str] = {}
         self.targets: set[str] = set()
         self.folders: set[str] = set()
         self.notes: dict[str, str] = {}
-        self.digests: dict[str, Digest] = {}
+        # Of each file the bytes so far: how many they are, and their digest.
+        self.sizes: dict[str, int] = {}
+        self.digests: dict[str, hashlib._Hash] = {}
 
     def __enter__(self) -> Outputs:
         return self
@@ -224,10 +226,16 @@ class Outputs:
             self.begin(path)
         with open(self.begun[path], "ab") as file:
             file.write(data)
+        self.sizes[path] += len(data)
         self.digests[path].update(data)
 
     def begin(self, path: str) -> None:
-        self.folders |= made_folders(os.path.dirname(path))
+        above = os.path.dirname(path)
+        # The folders whose names of folders are new.
+        while above and not os.path.exists(above):
+            above = os.path.dirname(above)
+            self.folders.add(above)
+        os.makedirs(os.path.dirname(path) or ".", exist_ok=True)
         folder, name = os.path.split(followed(path))
         target = os.path.join(os.path.realpath(folder), name)
         if target in self.targets:
@@ -235,7 +243,7 @@ class Outputs:
         with uninterrupted():
             self.begun[path] = new_of(path)
         self.targets.add(target)
-        self.digests[path] = Digest()
+        self.sizes[path], self.digests[path] = 0, hashlib.sha256()
         if self.begun[path] != path:
             self.folders.add(folder)
 
@@ -243,8 +251,11 @@ class Outputs:
         self.flush()
         series = {notes_path(path): path for path in self.begun}
         for path, text in self.notes.items():
+            if path in series:
+                size, digest = self.sizes[series[path]], self.digests[series[path]]
+                text = json_text({**json.loads(text), "size": size, "sha256": digest.hexdigest()})
             with failing_at(path):
-                self.append(path, (tied(text, self.digests[series[path]]) if path in series else text).encode())
+                self.append(path, text.encode())
         with concurrent.futures.ThreadPoolExecutor(SYNCS) as pool:
             list(pool.map(sync_new, self.begun.items()))
         self.place(sorted(path for path in self.begun if path not in self.notes), sorted(self.notes), series)
@@ -280,30 +291,11 @@ class Outputs:
         del self.begun[path]
 
 
-class Digest:
-    """The size and the SHA-256 of the bytes of a file so far."""
-
-    def __init__(self) -> None:
-        self.size = 0
-        self.sha256 = hashlib.sha256()
-
-    def update(self, data: bytes) -> None:
-        self.size += len(data)
-        self.sha256.update(data)
-
-
-def tied(text: str, digest: Digest) -> str:
-    """The text of a JSON file with the size and the digest of its CSV."""
-    return json_text({**json.loads(text), "size": digest.size, "sha256": digest.sha256.hexdigest()})
-
-
 def bytes_in(path: str) -> bytes | None:
     """The bytes of a small file, or None if there is none."""
-    try:
-        with open(path, "rb") as file:
-            return file.read()
-    except FileNotFoundError:
-        return None
+    with contextlib.suppress(FileNotFoundError), open(path, "rb") as file:
+        return file.read()
+    return None
 
 
 def put_back(path: str, text: bytes | None) -> None:
@@ -339,17 +331,6 @@ def locked(folder: str, command: str) -> IO[str]:
         lock.close()
         raise Refused(f"{folder}: another `tilt-data {command}` works in this folder") from error
     return lock
-
-
-def made_folders(folder: str) -> set[str]:
-    """Makes a folder, and those above it that aren't there; the folders whose names of folders are new."""
-    changed = set()
-    above = folder
-    while above and not os.path.exists(above):
-        above = os.path.dirname(above)
-        changed.add(above)
-    os.makedirs(folder or ".", exist_ok=True)
-    return changed
 
 
 def sync(path: str) -> None:
@@ -486,30 +467,13 @@ def taking(path: str, lasting: bool = True) -> Iterator[str]:
         drop(new, path)
 
 
-@contextlib.contextmanager
-def placed(path: str, lasting: bool = True) -> Iterator[IO[bytes]]:
-    """A file of bytes in a folder that several machines may share: it is written beside its name under one that nobody else has, brought
-    to the disk if it is to be `lasting`, and takes its name at the end. If it doesn't come to the end, it goes away."""
-    new = path
-    try:
-        os.makedirs(os.path.dirname(path) or ".", exist_ok=True)
-        with uninterrupted():
-            handle, new = new_beside(path, PLACED)
-        with open(handle, "wb") as file:
-            yield file
-            file.flush()
-            if lasting:
-                os.fsync(file.fileno())
-        take_place(new, path)
-    finally:
-        drop(new, path)
-
-
 class Together:
-    """New files as those of `placed`, which are brought to the disk together at `commit` and then take their names, one after another.
-    Those that haven't taken theirs at the end go away."""
+    """New files in folders that several machines may share: each is written beside its name under one that nobody else has. They are
+    brought to the disk together at `commit`, unless they needn't be `lasting`, and then take their names, one after another. Those that
+    haven't taken theirs at the end go away."""
 
-    def __init__(self) -> None:
+    def __init__(self, lasting: bool = True) -> None:
+        self.lasting = lasting
         self.begun: list[tuple[int, str, str]] = []
 
     def __enter__(self) -> Together:
@@ -532,15 +496,27 @@ class Together:
 
     def commit(self) -> None:
         # All are on their way to the disk before the first is waited for, so that the file system has one commit for them.
-        for handle, _, _ in self.begun:
+        for handle, _, _ in self.begun if self.lasting else ():
             os.posix_fadvise(handle, 0, 0, os.POSIX_FADV_DONTNEED)
-        for handle, _, _ in self.begun:
+        for handle, _, _ in self.begun if self.lasting else ():
             os.fsync(handle)
         for _, new, path in self.begun:
             take_place(new, path)
 
     def __exit__(self, *_: object) -> None:
         self.keep(0)
+
+
+@contextlib.contextmanager
+def placed(path: str, lasting: bool = True) -> Iterator[IO[bytes]]:
+    """A file of bytes as one of `Together`. If its writer doesn't come to the end, it goes away."""
+    with Together(lasting) as together:
+        with open(together.begin(path, path), "wb", closefd=False) as file:
+            yield file
+        together.commit()
+
+
+# The JSON file beside a series
 
 
 class Stale(Refused):
@@ -566,21 +542,33 @@ class Notes:
     sha256: str | None = None
 
     def text(self) -> str:
-        fields = {
-            "tilt-data": 1,
-            "version": VERSION,
-            "name": self.name,
-            "key": self.key,
-            "tick": duration_text(self.clock.tick),
-            "origin": moment_text(self.clock.origin, 9 if self.clock.origin % 10**9 else 0),
-            "zone": self.zone,
-            "closed": self.clock.closed,
-            "kind": self.kind,
-            "scale": self.scale,
-            "size": self.size,
-            "sha256": self.sha256,
-        }
+        clock = self.clock
+        origin = moment_text(clock.origin, 9 if clock.origin % 10**9 else 0)
+        fields = {"tilt-data": 1, "version": VERSION, "name": self.name, "key": self.key, "tick": duration_text(clock.tick)}
+        fields |= {"origin": origin, "zone": self.zone, "closed": clock.closed, "kind": self.kind, "scale": self.scale}
+        fields |= {"size": self.size, "sha256": self.sha256}
         return json_text({name: value for name, value in fields.items() if value is not None})
+
+    @staticmethod
+    def of(found: dict[str, Any]) -> Notes:
+        """The notes of the fields of a JSON file; a ValueError or a KeyError says what was expected."""
+
+        def field(name: str, kind: type, *default: Any) -> Any:
+            value = found.get(name, *default) if default else found[name]
+            if type(value) is not kind and not (default and value is default[0]):
+                raise ValueError(f"{name} {json.dumps(value)[:80]}: {'a whole number' if kind is int else 'a text'} was expected")
+            return value
+
+        clock = Clock(duration_of(field("tick", str)), Moments().read(field("origin", str)), field("closed", str, "left"))
+        if clock.closed not in ("left", "right"):
+            raise ValueError(f"closed {clock.closed!r}: left or right was expected")
+        texts = {name: field(name, str, default) for name, default in DEFAULTS.items()}
+        notes = Notes(clock, field("scale", int), size=field("size", int, None), **texts)
+        if notes.scale < 1:
+            raise ValueError("a scale above 0")
+        if notes.kind not in KINDS:
+            raise ValueError(f"kind {notes.kind!r}: one of {', '.join(KINDS)} was expected")
+        return notes
 
 
 def json_text(fields: dict[str, Any]) -> str:
@@ -603,7 +591,7 @@ def notes_of(series: str) -> Notes | None:
             found = json.load(file)
         if found.get("pending") is True:
             raise Stale(series, "a command is writing this series, or was stopped while it did")
-        notes = notes_read(found)
+        notes = Notes.of(found)
     except Stale:
         raise
     except (OSError, ValueError, KeyError, TypeError, AttributeError, RecursionError, Refused) as error:
@@ -613,57 +601,28 @@ def notes_of(series: str) -> Notes | None:
     return notes
 
 
-def notes_read(found: dict[str, Any]) -> Notes:
-    """The notes of the fields of a JSON file; a ValueError or a KeyError says what was expected."""
-
-    def field(name: str, kind: type, *default: Any) -> Any:
-        value = found.get(name, *default) if default else found[name]
-        if type(value) is not kind and not (default and value is default[0]):
-            raise ValueError(f"{name} {json.dumps(value)[:80]}: {'a whole number' if kind is int else 'a text'} was expected")
-        return value
-
-    clock = Clock(duration_of(field("tick", str)), Moments().read(field("origin", str)), field("closed", str, "left"))
-    if clock.closed not in ("left", "right"):
-        raise ValueError(f"closed {clock.closed!r}: left or right was expected")
-    notes = Notes(
-        clock,
-        field("scale", int),
-        field("kind", str, "hold"),
-        field("name", str, ""),
-        field("key", str, None),
-        field("zone", str, None),
-        field("size", int, None),
-        field("sha256", str, None),
-    )
-    if notes.scale < 1:
-        raise ValueError("a scale above 0")
-    if notes.kind not in KINDS:
-        raise ValueError(f"kind {notes.kind!r}: one of {', '.join(KINDS)} was expected")
+def notes_of_like(series: str) -> Notes:
+    """What the JSON file beside a series of --like says."""
+    notes = notes_of(series)
+    if notes is None:
+        raise Refused(f"{series}: there is no {notes_path(series)} beside it; `tilt-data series` writes one")
     return notes
 
 
 def check_replaceable(path: str, cure: str) -> None:
     """Rejects a series that would replace a file of other origin. A series of ours has the JSON file of ours beside it."""
     notes = notes_path(path)
-    if os.path.isfile(notes) and not is_ours(notes):
-        raise Refused(f"{notes}: it is there, and `tilt-data` didn't write it; {cure}")
+    if os.path.isfile(notes):
+        found = None
+        with contextlib.suppress(OSError, ValueError, RecursionError), open(notes, encoding="utf-8") as file:
+            found = json.load(file)
+        if not (isinstance(found, dict) and "tilt-data" in found):
+            raise Refused(f"{notes}: it is there, and `tilt-data` didn't write it; {cure}")
     # What the caller handed open, such as /dev/stdout, is never replaced.
-    if os.path.isfile(path) and not os.path.isfile(notes) and not is_handed(followed(path)):
+    elif os.path.isfile(path) and not is_handed(followed(path)):
         raise Refused(f"{path}: it is there without a JSON file beside it, so `tilt-data` didn't write it; {cure}")
 
 
-def is_ours(notes: str) -> bool:
-    """Whether a JSON file is one that is written beside a series."""
-    try:
-        with open(notes, encoding="utf-8") as file:
-            found = json.load(file)
-    except (OSError, ValueError, RecursionError):
-        return False
-    return isinstance(found, dict) and "tilt-data" in found
-
-
-@contextlib.contextmanager
-def scratch() -> Iterator[str]:
-    """A folder that goes away at the end."""
-    with tempfile.TemporaryDirectory(prefix="tilt-data-") as folder:
-        yield folder
+def scratch() -> tempfile.TemporaryDirectory[str]:
+    """A folder that goes away at the end of a `with`."""
+    return tempfile.TemporaryDirectory(prefix="tilt-data-")

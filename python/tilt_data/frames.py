@@ -11,7 +11,6 @@ import os
 import pathlib
 import re
 import sys
-import tempfile
 import warnings
 from typing import TYPE_CHECKING, Any, Callable, Iterable, Iterator, Literal, Mapping, Union, Unpack, get_args
 
@@ -22,7 +21,7 @@ from .convert import Converter
 from .degrees import scale_notes
 from .errors import Refused, TiltError
 from .explain import Explained
-from .files import HEADER, Notes, Outputs, Row, check_replaceable, notes_of, notes_path, reading, safe
+from .files import HEADER, Notes, Outputs, Row, check_replaceable, notes_of, notes_path, reading, safe, scratch
 from .keys import APART, Alone, Batches, readings_by_key
 from .over import Extent, Over, cut_note, edges_of, over_of
 from .program import REFUSALS
@@ -80,7 +79,7 @@ class Query:
 
     @functools.cached_property
     def explained(self) -> Explained:
-        with tempfile.TemporaryDirectory(prefix="tilt-data-") as folder:
+        with scratch() as folder:
             return sessions.explained(self.put(folder), self.name)
 
     def explain(self) -> Explained:
@@ -104,7 +103,7 @@ class Query:
         if by is not None:
             return self.by_key(data, by, look, convention, named)
         named = {**frame_inputs(data, self.inputs), **named}
-        with tempfile.TemporaryDirectory(prefix="tilt-data-") as folder:
+        with scratch() as folder:
             taken = Inputs(folder, over_of(self.text))
             shape, scale = bind(self.inputs, named, convention, taken.take)
             taken.files |= parted(named)[0]
@@ -188,7 +187,7 @@ class Query:
             return RowArrays.joined(rows_of_readings(name, converter, convention, moments[part], numbers[part], there))
 
         rows = ({name: rows_of(name, part, one) for name in self.inputs} for part, one in zip(parts, clocks))
-        with tempfile.TemporaryDirectory(prefix="tilt-data-") as folder:
+        with scratch() as folder:
             reach = explained.back + APART, explained.ahead + APART
             batches = Batches(functools.partial(self.run_over, folder, own), reach, own, look.over == "data")
             outputs = [look.kept(output, one.start, one.end) for one, output in batches.outputs(rows)]
@@ -765,7 +764,7 @@ class Live:
         converters = {name: Converter(self.clock, convention.rule(name, self.clock)) for name in query.inputs}
         self.taken = Taken(converters, {name: [] for name in query.inputs}, {})
         self.done: int | None = None
-        self.folder = tempfile.TemporaryDirectory(prefix="tilt-data-")
+        self.folder = scratch()
 
     def __enter__(self) -> Live:
         return self

@@ -9,7 +9,7 @@ from typing import Any, Iterator
 from .clock import TIMES, Clock, duration_of, moment_text, zone_of
 from .convert import row_text
 from .errors import Refused
-from .files import Notes, Outputs, Row, check_replaceable, notes_of, notes_path, same_file
+from .files import Notes, Outputs, Row, check_replaceable, notes_of_like, notes_path, same_file
 from .progress import shown
 
 HELP = """Writes a helper series, with its JSON file beside, on the clock of the series that --like names. KIND is one of these:
@@ -46,9 +46,7 @@ def add(commands: Any) -> None:
 
 
 def main(words: argparse.Namespace) -> int:
-    notes = notes_of(words.like)
-    if notes is None:
-        raise Refused(f"{words.like}: there is no {notes_path(words.like)} beside it; `tilt-data series` writes one")
+    notes = notes_of_like(words.like)
     if same_file(words.out, words.like) or same_file(notes_path(words.out), notes_path(words.like)):
         raise Refused(f"{words.out}: it is the series of --like, and would be written over: name another file")
     if not words.force:
