@@ -209,7 +209,7 @@ def rows_in_stretch(rows, low: int, high: int):
 
 def read_back(indexed: blocks.Indexed, low: int, high: int) -> bytes:
     found = b""
-    for segment, _ in blocks.stretch_of([indexed], low, high):
+    for segment in blocks.stretch_of([indexed], low, high):
         data = blocks.bytes_of(segment)
         begin, end, _ = blocks.trimmed(data, low, high)
         found += data[begin:end]
@@ -227,7 +227,7 @@ def test_only_the_rows_of_a_stretch_are_read(tmp_path):
         low = draws.randrange(-50, 20050)
         high = low + 1 + draws.randrange(draws.choice([2, 500, 20000]))
         assert read_back(indexed, low, high).decode() == text_of(rows_in_stretch(rows, low, high))[len(HEADER) :]
-        bytes_read = sum(segment.length for segment, _ in blocks.stretch_of([indexed], low, high))
+        bytes_read = sum(segment.length for segment in blocks.stretch_of([indexed], low, high))
         assert bytes_read <= len(read_back(indexed, low, high)) + 2 * max(block.length for block in indexed.blocks)
 
 
@@ -279,7 +279,7 @@ def test_an_index_is_made_once_and_anew_where_the_file_has_changed(tmp_path):
     path.write_text(text_of(series(1, 200, 3)))
     assert blocks.found_index(str(path), str(tmp_path)) is None
     with pytest.raises(Refused, match="changed after its index was made"):
-        blocks.bytes_of(next(blocks.stretch_of([indexed], 0, 100))[0])
+        blocks.bytes_of(next(blocks.stretch_of([indexed], 0, 100)))
 
 
 def settled(path: pathlib.Path, text: str) -> str:
@@ -381,11 +381,11 @@ def test_bytes_that_the_index_was_not_made_of(tmp_path, wrong):
     path = tmp_path / "x.csv"
     path.write_text(HEADER + "0,5,7\n\n\n6,8,9\n")
     indexed = blocks.make_index(str(path), str(tmp_path))
-    segment = next(blocks.stretch_of([indexed], 0, 10))[0]
+    segment = next(blocks.stretch_of([indexed], 0, 10))
     assert blocks.bytes_of(segment) == b"0,5,7\n\n\n6,8,9\n"
     path.write_text(HEADER + wrong)
     with pytest.raises(Refused, match="changed after its index was made"):
-        blocks.bytes_of(dataclasses.replace(segment, stamp=blocks.stamp_of(str(path))))
+        blocks.bytes_of(dataclasses.replace(segment, file_stamp=blocks.stamp_of(str(path))))
 
 
 def test_what_lies_between_blocks_is_read_too(tmp_path):
@@ -394,12 +394,12 @@ def test_what_lies_between_blocks_is_read_too(tmp_path):
     empty = "\n" * 3000
     path.write_text(HEADER + "0,5,7\n" + empty + "6,8,9\n")
     indexed = blocks.make_index(str(path), str(tmp_path))
-    segment = next(blocks.stretch_of([indexed], 0, 10))[0]
-    assert len(segment.spans) == 2 and sum(length for _, length in segment.spans) < 1500 < segment.length
+    segment = next(blocks.stretch_of([indexed], 0, 10))
+    assert len(segment.blocks) == 2 and sum(block.length for block in segment.blocks) < 1500 < segment.length
     assert blocks.bytes_of(segment).decode() == "0,5,7\n" + empty + "6,8,9\n"
     path.write_text(HEADER + "0,5,7\n" + empty[:1500] + "5,6,1\n" + empty[1506:] + "6,8,9\n")
     with pytest.raises(Refused, match="changed after its index was made"):
-        blocks.bytes_of(dataclasses.replace(segment, stamp=blocks.stamp_of(str(path))))
+        blocks.bytes_of(dataclasses.replace(segment, file_stamp=blocks.stamp_of(str(path))))
 
 
 @pytest.mark.parametrize(
@@ -693,7 +693,7 @@ def test_a_part_reads_only_the_rows_that_it_needs(here):
     middle = list(plan.tasks(""))[1]
     x, u = middle.inputs
     assert (x.low, x.high) == (20000 - 1 - 29, 20100 + 7) and not u.segments
-    words, count, _ = tasks.laid_out(middle, str(here))
+    words, count = tasks.laid_out(middle, str(here))
     wanted = rows_in_stretch(rows, x.low, x.high)
     assert pathlib.Path(words[1].partition("=")[2]).read_text() == text_of(wanted) and count == len(wanted) < 60
     assert pathlib.Path(words[2].partition("=")[2]).read_text() == HEADER
@@ -705,10 +705,10 @@ def test_a_file_of_which_all_rows_are_needed_is_an_argument_itself(here):
     plan = planned("input x; emit x over (0, 30000];", x="x.csv")
     plan.cut_at("", [], 1)
     task = next(plan.tasks(""))
-    assert tasks.laid_out(task, str(here))[:2] == ([str(here / "query.tilt"), f"x={here}/x.csv"], len(rows))
+    assert tasks.laid_out(task, str(here)) == ([str(here / "query.tilt"), f"x={here}/x.csv"], len(rows))
     pathlib.Path("x.csv").write_text(text_of(series(2, 30000, 5)))
     with pytest.raises(Refused, match="it was changed after its index was made: call again"):
-        tasks.check_unchanged(task)
+        blocks.check_stamp(task.inputs[0].segments[0])
     # A part of the rows is copied.
     pathlib.Path("x.csv").write_text(text_of(rows))
     plan = planned("input x; emit x over (0, 100];", x="x.csv")

@@ -13,12 +13,12 @@ import json
 import os
 import re
 import time
-from typing import IO, Callable, Iterable, Iterator
+from typing import Callable, Iterable, Iterator
 
 from .clock import TIMES
 from .convert import row_text
 from .errors import Refused, refused_at
-from .files import HEADER, Row, placed, reading, rows_of
+from .files import HEADER_LINE, placed, rows_in
 
 LONGEST, SHORTEST, FEWEST = 1 << 18, 1 << 9, 64
 # How many bytes a file has at most whose index isn't stored.
@@ -31,12 +31,12 @@ EDGE = 1 << 12
 # What a plain file has besides the ends of its lines.
 PLAIN = b"0123456789+-,\r"
 MARK = b"\xef\xbb\xbf"
-HEADER_LINE = ",".join(HEADER).encode()
 # A row as the program takes it: numbers are an optional sign and ASCII digits, and only the value may be empty.
 ROW = re.compile(rb"([+-]?[0-9]+),([+-]?[0-9]+),(?:[+-]?[0-9]+)?\r?\n?")
 WANTED = f"a row start,end,value of whole numbers was expected, with its start below its end and both within {TIMES} of 0"
 VERSION = 2
 Stamp = tuple[int, int, int, int]
+Check = Callable[[], None]
 
 
 @dataclasses.dataclass(frozen=True)
@@ -54,9 +54,10 @@ class Block:
 
 @dataclasses.dataclass(frozen=True)
 class Indexed:
-    """A series file and its blocks in order. `file` is the one that is read, which is the series itself if that is plain; the stamps are
-    those of both files. `settled` says that no other bytes of the file can have its stamp (`is_settled`), and `whole` that all rows are
-    needed, in one block that no bytes were digested for (`whole_index`)."""
+    """A series file and its blocks in order, or some of them: with these it is a segment, the bytes that hold all its rows with a tick in
+    some stretch, and at most a block more at each end. `file` is the one that is read, which is the series itself if that is plain; the
+    stamps are those of both files. `settled` says that no other bytes of the file can have its stamp (`is_settled`), and `whole` that all
+    rows are needed, in one block that no bytes were digested for (`whole_index`)."""
 
     path: str
     stamp: Stamp
@@ -70,24 +71,14 @@ class Indexed:
     def rows(self) -> int:
         return sum(block.rows for block in self.blocks)
 
+    @property
+    def offset(self) -> int:
+        return self.blocks[0].offset
 
-@dataclasses.dataclass(frozen=True)
-class Segment:
-    """Bytes of a file that hold all its rows with a tick in some stretch, and at most a block more at each end; and how many rows they
-    hold. `path` is the series, and `file` the file that is read. `spans` has the first byte of each block, from the start of the segment,
-    and its length; `digest` is the digest of all of them (`joint_digest`). If the file is `settled`, its stamp shows that these are its
-    bytes; if all are needed as they are, the segment is `whole`."""
-
-    path: str
-    file: str
-    stamp: Stamp
-    offset: int
-    length: int
-    rows: int
-    spans: tuple[tuple[int, int], ...]
-    digest: str
-    settled: bool = False
-    whole: bool = False
+    @property
+    def length(self) -> int:
+        """How many bytes there are from the first block to the last one."""
+        return self.blocks[-1].offset + self.blocks[-1].length - self.offset
 
 
 def stamp_of(path: str) -> Stamp:
@@ -153,9 +144,15 @@ def small_index(path: str) -> Indexed | None:
     """The index of a plain file that is read as fast as a stored index would be, and has none; None for any other file."""
     now, stamp = time.time_ns(), stamp_of(path)
     blocks = blocks_of(path, path, lambda: None) if stamp[0] <= SMALL else None
-    if blocks is not None and stamp_of(path) != stamp:
+    if blocks is None:
+        return None
+    check_unread(path, stamp)
+    return Indexed(path, stamp, path, stamp, blocks, is_settled(stamp, now))
+
+
+def check_unread(path: str, stamp: Stamp) -> None:
+    if stamp_of(path) != stamp:
         raise Refused(f"{path}: it was changed while it was read: call again")
-    return Indexed(path, stamp, path, stamp, blocks, is_settled(stamp, now)) if blocks is not None else None
 
 
 def whole_index(path: str, low: int, high: int) -> Indexed | None:
@@ -167,8 +164,7 @@ def whole_index(path: str, low: int, high: int) -> Indexed | None:
         return None
     try:
         with open(path, "rb") as file:
-            head = file.read(EDGE)
-            tail = head
+            head = tail = file.read(EDGE)
             if stamp[0] > EDGE:
                 file.seek(stamp[0] - EDGE)
                 tail = file.read(EDGE)
@@ -177,23 +173,18 @@ def whole_index(path: str, low: int, high: int) -> Indexed | None:
     header, end, rest = head.partition(b"\n")
     first = times_of(rest.partition(b"\n")[0])
     last = times_of(tail.removesuffix(b"\n").rpartition(b"\n")[2])
-    if header.removeprefix(MARK).removesuffix(b"\r") != HEADER_LINE or first is None or last is None or b'"' in head or b'"' in tail:
+    is_plain = header.removeprefix(MARK).removesuffix(b"\r") + b"\n" == HEADER_LINE and b'"' not in head + tail
+    if not is_plain or first is None or last is None or first[1] <= low or last[0] >= high:
         return None
-    if first[1] <= low or last[0] >= high:
-        return None
-    offset = len(header + end)
-    digest = hashlib.sha1(f"{path} {stamp}".encode(), usedforsecurity=False).hexdigest()
-    block = Block(offset, stamp[0] - offset, rows_about(tail, stamp[0] - offset), first[0], last[1], digest)
+    length = stamp[0] - len(header + end)
+    # About as many rows as the last lines, after what may be half a line, let expect.
+    lines = tail.partition(b"\n")[2].removesuffix(b"\n") + b"\n"
+    rows = max(1, round(length * lines.count(b"\n") / len(lines)))
+    block = Block(stamp[0] - length, length, rows, first[0], last[1], joint_digest([f"{path} {stamp}"]))
     return Indexed(path, stamp, path, stamp, [block], True, True)
 
 
-def rows_about(tail: bytes, length: int) -> int:
-    """About how many rows there are in so many bytes, by the last of them, after what may be half a line."""
-    lines = tail.partition(b"\n")[2].removesuffix(b"\n") + b"\n"
-    return max(1, round(length * lines.count(b"\n") / len(lines)))
-
-
-def make_index(path: str, folder: str, check: Callable[[], None] = lambda: None) -> Indexed:
+def make_index(path: str, folder: str, check: Check = lambda: None) -> Indexed:
     """Makes the index of a series and writes it to the folder. A file that can't be a series raises a Refused with the line; of a plain
     file only the first and the last row of each block are parsed here. `check` is called for each block, and can raise an exception to
     stop."""
@@ -202,69 +193,45 @@ def make_index(path: str, folder: str, check: Callable[[], None] = lambda: None)
     file, file_stamp = path, stamp
     if blocks is None:
         file = index_path(path, folder).removesuffix(".json") + ".csv"
-        write_plainly(path, file, check)
+        with placed(file) as new:
+            new.write(HEADER_LINE)
+            for row in rows_in(path):
+                check()
+                new.write(row_text(row).encode())
         file_stamp = stamp_of(file)
         blocks = blocks_of(path, file, check) or []
-    if stamp_of(path) != stamp:
-        raise Refused(f"{path}: it was changed while it was read: call again")
+    check_unread(path, stamp)
     indexed = Indexed(path, stamp, file, file_stamp, blocks, file == path and is_settled(stamp, now))
-    fields = {
-        "tilt-data": VERSION,
-        "path": path,
-        "stamp": stamp,
-        "file": file,
-        "file-stamp": file_stamp,
-        "settled": indexed.settled,
-        "blocks": [dataclasses.astuple(block) for block in blocks],
-    }
+    fields = {"tilt-data": VERSION, "path": path, "stamp": stamp, "file": file, "file-stamp": file_stamp, "settled": indexed.settled}
     # An index that a stop of the machine tears can't be read, and is made again.
     with placed(index_path(path, folder), lasting=False) as new:
-        new.write(json.dumps(fields).encode())
+        new.write(json.dumps({**fields, "blocks": [dataclasses.astuple(block) for block in blocks]}).encode())
     return indexed
 
 
-def write_plainly(path: str, target: str, check: Callable[[], None]) -> None:
-    with placed(target) as new:
-        new.write(HEADER_LINE + b"\n")
-        for row in rows_in(path):
-            check()
-            new.write(row_text(row).encode())
-
-
-def rows_in(path: str) -> Iterator[Row]:
-    """The rows of a series. An error while they are written elsewhere isn't reported as a fault of this file."""
-    with reading(path) as file:
-        yield from rows_of(path, file)
-
-
-def blocks_of(path: str, file: str, check: Callable[[], None]) -> list[Block] | None:
+def blocks_of(path: str, file: str, check: Check) -> list[Block] | None:
     """The blocks of a file, or None if it isn't plain. Errors have the name of the series."""
+    blocks: list[Block] = []
+    line = 2
     try:
         with open(file, "rb") as opened:
             length = max(SHORTEST, min(LONGEST, os.fstat(opened.fileno()).st_size // FEWEST))
-            header = opened.readline().removeprefix(MARK).rstrip(b"\r\n")
-            if header != HEADER_LINE:
+            if opened.readline().removeprefix(MARK).rstrip(b"\r\n") + b"\n" != HEADER_LINE:
                 return None
-            return read_blocks(path, opened, length, check)
+            while True:
+                check()
+                offset = opened.tell()
+                data = opened.read(length)
+                data += b"" if data.endswith(b"\n") else opened.readline()
+                if not data:
+                    return blocks
+                ends = data.translate(None, PLAIN)
+                if ends.strip(b"\n") or b"\r" in data and data.count(b"\r") != data.count(b"\r\n"):
+                    return None
+                blocks += block_of(path, data, len(ends), offset, line, blocks[-1].last if blocks else None)
+                line += len(ends)
     except OSError as error:
         raise Refused(f"{path}: {error.strerror}") from error
-
-
-def read_blocks(path: str, file: IO[bytes], length: int, check: Callable[[], None]) -> list[Block] | None:
-    blocks: list[Block] = []
-    line = 2
-    while True:
-        check()
-        offset = file.tell()
-        data = file.read(length)
-        data += b"" if data.endswith(b"\n") else file.readline()
-        if not data:
-            return blocks
-        ends = data.translate(None, PLAIN)
-        if ends.strip(b"\n") or b"\r" in data and data.count(b"\r") != data.count(b"\r\n"):
-            return None
-        blocks += block_of(path, data, len(ends), offset, line, blocks[-1].last if blocks else None)
-        line += len(ends)
 
 
 def block_of(path: str, data: bytes, ends: int, offset: int, line: int, end: int | None) -> list[Block]:
@@ -278,9 +245,8 @@ def block_of(path: str, data: bytes, ends: int, offset: int, line: int, end: int
     last = times_of(rows[rows.rfind(b"\n") + 1 :])
     if first is None or last is None or first[0] >= last[1] or end is not None and first[0] < end:
         raise fault_in(path, rows, line, end)
-    digest = hashlib.sha1(data, usedforsecurity=False).hexdigest()
     count = ends - data.count(b"\n", 0, before) - max(0, data.count(b"\n", len(rows)) - 1) + (not data.endswith(b"\n"))
-    return [Block(offset, len(data), count, first[0], last[1], digest)]
+    return [Block(offset, len(data), count, first[0], last[1], digest_of(data))]
 
 
 def fault_in(path: str, rows: bytes, line: int, end: int | None) -> Refused:
@@ -298,12 +264,11 @@ def fault_in(path: str, rows: bytes, line: int, end: int | None) -> Refused:
 def times_of(line: bytes) -> tuple[int, int] | None:
     """The start and the end in a line; None if it is no row that the program can take."""
     row = ROW.fullmatch(line)
-    try:
-        times = (int(row[1]), int(row[2])) if row is not None else None
-    except ValueError:
-        # More digits than Python takes.
+    # Python doesn't read thousands of digits.
+    if row is None or len(line) > 4000:
         return None
-    return times if times is not None and max(abs(times[0]), abs(times[1])) <= TIMES else None
+    times = int(row[1]), int(row[2])
+    return times if max(abs(times[0]), abs(times[1])) <= TIMES else None
 
 
 # The rows of a stretch
@@ -314,47 +279,30 @@ def in_order(files: Iterable[Indexed]) -> list[Indexed]:
     ordered = sorted((one for one in files if one.blocks), key=lambda one: one.blocks[0].first)
     for one, other in zip(ordered, ordered[1:]):
         if other.blocks[0].first < one.blocks[-1].last:
-            raise Refused(
-                f"{other.path}: its rows begin at {other.blocks[0].first}, before those of {one.path} end, at "
-                f"{one.blocks[-1].last}: the files of an input may not overlap"
-            )
+            ends = f"before those of {one.path} end, at {one.blocks[-1].last}"
+            raise Refused(f"{other.path}: its rows begin at {other.blocks[0].first}, {ends}: the files of an input may not overlap")
     return ordered
 
 
-def met(blocks: list[Block], low: int, high: int) -> list[Block]:
-    """The blocks of a file that may have a row with a tick in (low, high]."""
-    begin = bisect.bisect_right(blocks, low, key=lambda block: block.last)
-    end = bisect.bisect_left(blocks, high, key=lambda block: block.first)
-    return blocks[begin : max(begin, end)]
-
-
-def stretch_of(files: list[Indexed], low: int, high: int) -> Iterator[tuple[Segment, list[Block]]]:
-    """The segments, and their blocks, of the files of an input for the rows with a tick in (low, high]."""
+def stretch_of(files: list[Indexed], low: int, high: int) -> Iterator[Indexed]:
+    """The segments of the files of an input for the rows with a tick in (low, high]."""
     for one in files:
-        blocks = met(one.blocks, low, high)
-        if blocks:
-            begin, end = blocks[0].offset, blocks[-1].offset + blocks[-1].length
-            spans = tuple((block.offset - begin, block.length) for block in blocks)
-            yield Segment(
-                one.path,
-                one.file,
-                one.file_stamp,
-                begin,
-                end - begin,
-                sum(block.rows for block in blocks),
-                spans,
-                joint_digest(block.digest for block in blocks),
-                one.settled,
-                one.whole,
-            ), blocks
+        begin = bisect.bisect_right(one.blocks, low, key=lambda block: block.last)
+        end = bisect.bisect_left(one.blocks, high, key=lambda block: block.first)
+        if begin < end:
+            yield dataclasses.replace(one, blocks=one.blocks[begin:end])
+
+
+def digest_of(data: bytes | memoryview) -> str:
+    return hashlib.sha1(data, usedforsecurity=False).hexdigest()
 
 
 def joint_digest(digests: Iterable[str]) -> str:
-    """The digest of some blocks, by the digest of each."""
-    return hashlib.sha1("".join(digests).encode(), usedforsecurity=False).hexdigest()
+    """The digest of several texts, such as the digests of blocks."""
+    return digest_of("".join(digests).encode())
 
 
-def bytes_of(segment: Segment) -> bytes:
+def bytes_of(segment: Indexed) -> bytes:
     """The bytes of a segment, which are those that the index was made of. Raises a Refused if the file was changed since, and also if only
     the bytes can show that."""
     with open(segment.file, "rb") as file:
@@ -366,9 +314,9 @@ def bytes_of(segment: Segment) -> bytes:
     return data
 
 
-def check_stamp(segment: Segment) -> None:
+def check_stamp(segment: Indexed) -> None:
     """Raises a Refused if the file of a segment was changed since its index was made."""
-    if stamp_of(segment.file) != segment.stamp:
+    if stamp_of(segment.file) != segment.file_stamp:
         raise changed(segment.path)
 
 
@@ -376,15 +324,15 @@ def changed(path: str) -> Refused:
     return Refused(f"{path}: it was changed after its index was made: call again")
 
 
-def is_as_indexed(data: bytes, segment: Segment) -> bool:
+def is_as_indexed(data: bytes, segment: Indexed) -> bool:
     """Whether bytes have the blocks of a segment, and nothing but ends of lines between them."""
-    digests, at, view = [], 0, memoryview(data)
-    for begin, length in segment.spans:
-        if data[at:begin].strip(b"\r\n"):
+    at, view = 0, memoryview(data)
+    for block in segment.blocks:
+        begin = block.offset - segment.offset
+        between, at = data[at:begin], begin + block.length
+        if between.strip(b"\r\n") or digest_of(view[begin:at]) != block.digest:
             return False
-        at = begin + length
-        digests.append(hashlib.sha1(view[begin:at], usedforsecurity=False).hexdigest())
-    return len(data) == segment.length and joint_digest(digests) == segment.digest
+    return True
 
 
 def trimmed(data: bytes, low: int, high: int) -> tuple[int, int, int]:

@@ -9,7 +9,7 @@ from typing import Iterable, Iterator, Mapping
 
 from .clock import TIMES, WHOLE, Clock
 from .errors import Refused
-from .files import Notes, Row, notes_of, reading, rows_of, spooled
+from .files import Notes, Row, notes_of, rows_in, spooled
 
 WORD = re.compile(r"(\+?)(?:(band|limit|dots):)?([^=]+)=(.+)")
 # What no XML file can have, and what no font shows; a line end is allowed.
@@ -32,8 +32,7 @@ class Drawn:
 
     def rows(self) -> Iterator[Row]:
         """The rows of the file. One that the program rejects, and a file that isn't the one of its JSON file, is a Refused."""
-        with reading(self.copy or self.file, self.file, self.sha256) as opened:
-            yield from rows_of(self.file, opened)
+        return rows_in(self.copy or self.file, self.file, self.sha256)
 
 
 def add_drawn(parser: argparse.ArgumentParser, has_end: bool = True) -> None:

@@ -41,8 +41,7 @@ class Engine:
     that the error is raised as a Refused."""
 
     def __init__(self, workers: int, retries: int) -> None:
-        self.most = workers
-        self.retries = retries
+        self.most, self.retries = workers, retries
         self.begun: dict[Any, tuple[str, Function, Any]] = {}
         self.failures: collections.Counter[str] = collections.Counter()
         self.pool = concurrent.futures.ThreadPoolExecutor(max(1, workers))
@@ -84,14 +83,11 @@ class Engine:
                 made: Made = future.result()
                 return argument, made
             except Exception as error:
-                self.count_failure(name, error)
+                self.failures[name] += 1
+                self.check_alive()
+                if self.failures[name] > self.retries:
+                    raise Refused(f"{name} failed {self.failures[name]} times: {cause_of(error)}") from error
             self.begin(name, function, argument)
-
-    def count_failure(self, name: str, error: Exception) -> None:
-        self.failures[name] += 1
-        self.check_alive()
-        if self.failures[name] > self.retries:
-            raise Refused(f"{name} failed {self.failures[name]} times: {cause_of(error)}") from error
 
 
 class Cluster(Engine):
@@ -99,8 +95,7 @@ class Cluster(Engine):
 
     def __init__(self, scheduler: str, retries: int) -> None:
         super().__init__(0, retries)
-        self.scheduler = scheduler
-        self.distributed = imported()
+        self.scheduler, self.distributed = scheduler, imported()
         self.client: Any = None
         self.waiting: Any = None
         self.room, self.asked = 0, 0.0
@@ -162,10 +157,9 @@ def client_of(distributed: Any, scheduler: str) -> Any:
     try:
         return distributed.Client(scheduler, timeout="10s")
     except (OSError, ValueError, TypeError, TimeoutError) as error:
+        cure = "an address such as tcp://127.0.0.1:8786 was expected"
         if scheduler.startswith("tls:"):
             cure = "the scheduler has to be there, and Dask's configuration has to name the certificates (distributed.comm.tls)"
-        else:
-            cure = "an address such as tcp://127.0.0.1:8786 was expected"
         raise Refused(f"{scheduler}: no scheduler answers there: {cure}") from error
 
 
@@ -173,6 +167,4 @@ def cause_of(error: Exception) -> str:
     kind = type(error).__name__
     if kind == "KilledWorker":
         return "its workers were killed"
-    if isinstance(error, ModuleNotFoundError):
-        return f"{error}: each worker needs it"
-    return str(error) or kind
+    return f"{error}: each worker needs it" if isinstance(error, ModuleNotFoundError) else str(error) or kind

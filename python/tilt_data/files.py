@@ -27,6 +27,7 @@ from .version import VERSION
 
 Row = tuple[int, int, "int | None"]
 HEADER = ["start", "end", "value"]
+HEADER_LINE = b"start,end,value\n"
 # How the name of a file ends that has no name of its own yet: in a folder that `scale` sweeps, and elsewhere.
 PLACED = ".tilt-data-new"
 BESIDE = ".tilt-data"
@@ -119,6 +120,12 @@ def rows_of(path: str, file: Iterable[str]) -> Iterator[Row]:
         row = row_of(path, line, record, before)
         before = row[1]
         yield row
+
+
+def rows_in(path: str, shown: str | None = None, sha256: str | None = None) -> Iterator[Row]:
+    """The rows of a file, as `rows_of` has them. An error while they are written elsewhere isn't reported as a fault of this file."""
+    with reading(path, shown, sha256) as file:
+        yield from rows_of(shown or path, file)
 
 
 def row_of(path: str, line: int, record: list[str], before: int | None = None) -> Row:

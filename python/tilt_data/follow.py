@@ -37,7 +37,7 @@ from .convention import TextConvention
 from .convert import Converter, Late, Tie, row_text
 from .errors import Refused, note, printable
 from .explain import Explained
-from .files import Notes, Row, failing_at, locked, notes_of, reading, rows_of, sync, writing
+from .files import Notes, Row, failing_at, locked, notes_of, rows_in, sync, writing
 from .over import over_of
 from .scales import GREATEST, LEAST, Scale
 from .version import VERSION
@@ -113,8 +113,7 @@ class Source:
 
     @staticmethod
     def of(path: str) -> Source:
-        with reading(path) as file:
-            rows = list(rows_of(path, file))
+        rows = list(rows_in(path))
         return Source(rows, rows[-1][1] if rows else None, path=path)
 
     @property

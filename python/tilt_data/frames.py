@@ -21,11 +21,11 @@ from .convert import Converter
 from .degrees import scale_notes
 from .errors import Refused, TiltError
 from .explain import Explained
-from .files import HEADER, Notes, Outputs, Row, check_replaceable, notes_of, notes_path, reading, safe, scratch
+from .files import HEADER_LINE, Notes, Outputs, Row, check_replaceable, notes_of, notes_path, reading, safe, scratch
 from .keys import APART, Alone, Batches, readings_by_key
 from .over import Extent, Over, cut_note, edges_of, over_of
 from .program import REFUSALS
-from .rows import RowArrays, Unordered, fits, output_of, rows_in, rows_pushed
+from .rows import RowArrays, Unordered, arrays_in, fits, output_of, rows_pushed
 from .whole import digits_in, whole_numbers
 
 if TYPE_CHECKING:
@@ -283,7 +283,7 @@ def write_series(outputs: Outputs, named: dict[str, Any], paths: Mapping[str, st
     """Writes the Series among some inputs, which have one clock, to files with their notes."""
 
     def take(name: str, parts: Iterable[RowArrays]) -> None:
-        outputs.write(paths[name], ",".join(HEADER) + "\n")
+        outputs.write(paths[name], HEADER_LINE.decode())
         for part in parts:
             outputs.write(paths[name], part.text().decode())
 
@@ -525,9 +525,8 @@ class Inputs:
 def extent_of(file: str) -> Extent:
     """How far the rows of a file reach."""
     extent = Extent()
-    with reading(file) as opened:
-        for part in rows_in(file, opened):
-            extent.add(part)
+    for part in arrays_in(file):
+        extent.add(part)
     return extent
 
 

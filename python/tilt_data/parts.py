@@ -10,12 +10,11 @@ import os
 from typing import IO, Callable, Iterable
 
 from .errors import Refused
-from .files import HEADER
+from .files import HEADER_LINE
 from .grammar import MOST_TOKENS
 from .over import Over, over_in
 from .tokens import tokens_of
 
-LINE = (",".join(HEADER) + "\n").encode()
 # No line of an output has more bytes.
 LONGEST = 128
 
@@ -83,7 +82,7 @@ def join(parts: list[tuple[Part, str]], out: IO[bytes], check: Callable[[], None
     The last piece of a part ends at the cut, and the first piece of the next one begins where its stretch does. Null pieces aren't
     printed: so the last line of a part is its last piece where it ends at the cut, and else that was null; the first likewise. Both hold
     the tick of the cut, so that both are null or none is."""
-    out.write(LINE)
+    out.write(HEADER_LINE)
     held: bytes | None = None
     for part, path in parts:
         with open(path, "rb") as file:
@@ -95,7 +94,7 @@ def join(parts: list[tuple[Part, str]], out: IO[bytes], check: Callable[[], None
 
 def opened(file: IO[bytes], path: str) -> bytes:
     """The first line after the header; empty where there is none."""
-    if file.readline() != LINE:
+    if file.readline() != HEADER_LINE:
         raise Refused(f"{path}: the output of a part was expected")
     return file.readline()
 

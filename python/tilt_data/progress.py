@@ -42,7 +42,10 @@ class Bar:
             line = f"\r[{'#' * filled}{' ' * (40 - filled)}] {self.done} of {self.total} {self.unit}"
             print(line, end="", file=sys.stderr, flush=True)
 
-    def close(self) -> None:
+    def __enter__(self) -> Bar:
+        return self
+
+    def __exit__(self, *_: object) -> None:
         if self.bar is not None:
             self.bar.close()
         elif self.has_line:

@@ -15,7 +15,7 @@ from .clock import TIMES, Clock, Moments, duration_text, moment_text, zone_of
 from .convention import TextConvention, time_text
 from .convert import Converter, Late, Tie, row_text
 from .errors import Refused, note, refused_at
-from .files import Notes, Outputs, Row, check_replaceable, notes_path, reading, records, safe, same_file, scratch, spooled
+from .files import HEADER_LINE, Notes, Outputs, Row, check_replaceable, notes_path, reading, records, safe, same_file, scratch, spooled
 from .progress import shown
 from .scales import Scale, digits_after_point
 
@@ -244,7 +244,7 @@ class Converting:
         if path in self.paths:
             raise refused_at(self.path, line, f"the key {key} with {name} and another key have one file, {path}: leave --prefix out")
         self.paths.add(path)
-        self.outputs.write(path, "start,end,value\n")
+        self.outputs.write(path, HEADER_LINE.decode())
         series = self.series[key, name] = Written(key, name, path, converter)
         return series
 

@@ -7,12 +7,12 @@ from __future__ import annotations
 import dataclasses
 import decimal
 import itertools
-from typing import IO, Any, Iterable, Iterator
+from typing import Any, Iterable, Iterator
 
 from . import digits
 from .clock import TIMES
 from .convert import Converter
-from .files import HEADER, Row, reading, rows_of
+from .files import HEADER, Row, rows_in
 from .scales import decimal_text
 
 # How many readings are converted at a time, so that what is made of them is in the processor's cache.
@@ -190,9 +190,9 @@ def rows_ended(converter: Converter, moment: int, starts: Any, values: Any, know
     return RowArrays(starts[:-1], ends, values[:-1], None if known is None or known[:-1].all() else known[:-1])
 
 
-def rows_in(path: str, file: IO[str]) -> Iterator[RowArrays]:
-    """The rows of a file, as `files.rows_of` has them."""
-    rows = rows_of(path, file)
+def arrays_in(path: str) -> Iterator[RowArrays]:
+    """The rows of a file, as `files.rows_in` has them."""
+    rows = rows_in(path)
     while some := list(itertools.islice(rows, AT_ONCE)):
         yield RowArrays.of(some)
 
@@ -208,5 +208,4 @@ def output_of(path: str) -> RowArrays:
     except (ValueError, OverflowError):
         # Read row by row, a file says where it is no output.
         pass
-    with reading(path) as opened:
-        return RowArrays.joined(rows_in(path, opened))
+    return RowArrays.joined(arrays_in(path))

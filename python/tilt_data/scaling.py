@@ -172,9 +172,18 @@ class Plan:
         except OSError as error:
             raise Refused(f"the program can't be run: {error.strerror}") from error
         self.domain = Domain.of(query.text)
-        self.check_names(inputs)
+        missing = next((name for name in self.needs if name not in inputs), None)
+        other = next((name for name in inputs if name not in self.needs), None)
+        if missing is not None or other is not None:
+            what = f"{missing} isn't bound: {missing}=FILES" if missing is not None else f"not {other}"
+            raise Refused(f"{what}: the query reads {', '.join(self.needs) or 'no inputs'}")
         self.files = files_of(inputs)
-        self.check_files()
+        # All rows of the files of one input go to the program as one series.
+        several = {tuple(paths): name for its in self.files.values() for name, paths in its.items() if len(paths) > 1}
+        for paths, name in several.items():
+            clash = clashes_of({path: path for path in paths})
+            if clash:
+                raise Refused(f"{name}: {clash}")
         self.out = os.path.abspath(out)
         self.index = os.path.abspath(index) if index is not None else os.path.join(self.out, "index")
         self.cuts: dict[str, list[int]] = {}
@@ -183,22 +192,6 @@ class Plan:
         # The keys whose files the program reads as they are, and what is known of each file.
         self.wholes: dict[str, dict[str, list[Indexed]]] = {}
         self.rows = self.moved = self.fewer = 0
-
-    def check_names(self, inputs: Mapping[str, Sequence[str]]) -> None:
-        names = list(self.needs)
-        missing = next((name for name in names if name not in inputs), None)
-        other = next((name for name in inputs if name not in names), None)
-        if missing is not None or other is not None:
-            what = f"{missing} isn't bound: {missing}=FILES" if missing is not None else f"not {other}"
-            raise Refused(f"{what}: the query reads {', '.join(names) or 'no inputs'}")
-
-    def check_files(self) -> None:
-        """Raises a Refused if files of one input have different clocks or scales, since all their rows go to the program as one series."""
-        several = {tuple(paths): name for its in self.files.values() for name, paths in its.items() if len(paths) > 1}
-        for paths, name in several.items():
-            clash = clashes_of({path: path for path in paths})
-            if clash:
-                raise Refused(f"{name}: {clash}")
 
     def choose_wholes(self, part_rows: int) -> None:
         """Finds the keys that need no index: each input is one file, all are needed, and they have the rows of one part."""
@@ -214,23 +207,19 @@ class Plan:
                 if one is None or len(paths) > 1:
                     break
                 found[name] = [one]
-            if found and len(found) == len(its) and sum(one.rows for files in found.values() for one in files) <= most:
+            if found and len(found) == len(its) and rows_of(found) <= most:
                 self.wholes[key] = found
 
     def is_small(self, key: str) -> bool:
         """Whether the program reads the files of a key as they are, and all are small."""
         return key in self.wholes and all(one.stamp[0] <= blocks.SMALL for files in self.wholes[key].values() for one in files)
 
-    def paths(self) -> list[str]:
-        """The series that need an index, each once."""
-        files = (its for key, its in self.files.items() if key not in self.wholes)
-        return list(dict.fromkeys(path for its in files for paths in its.values() for path in paths))
-
     def unindexed(self) -> Iterator[Indexing]:
         """The series that have no index yet, some for each task."""
         some: list[str] = []
         size = 0
-        for path in self.paths():
+        files = (its for key, its in self.files.items() if key not in self.wholes)
+        for path in dict.fromkeys(path for its in files for paths in its.values() for path in paths):
             small = blocks.small_index(path)
             if small is not None:
                 self.stamps[path] = small.stamp
@@ -260,13 +249,13 @@ class Plan:
     def cut(self, key: str, part_rows: int) -> None:
         """Chooses the cuts of a key by the rows that its output rests on."""
         if key in self.wholes:
-            self.rows += sum(one.rows for files in self.wholes[key].values() for one in files)
+            self.rows += rows_of(self.wholes[key])
             self.cut_at(key, [], 1)
             return
         met: list[Block] = []
         for name, files in self.indexed(key).items():
-            for _, some in blocks.stretch_of(files, *self.stretch(name, self.domain.start, self.domain.end)):
-                met += some
+            for segment in blocks.stretch_of(files, *self.stretch(name, self.domain.start, self.domain.end)):
+                met += segment.blocks
         rows = sum(block.rows for block in met)
         self.rows += rows
         count = -(-rows // part_rows)
@@ -291,13 +280,12 @@ class Plan:
             inputs = []
             for name, files in indexed.items():
                 low, high = self.stretch(name, part.start, part.end)
-                stretch = list(blocks.stretch_of(files, low, high)) if low < high else []
-                found.update(f"\n{name} {low} {high} ".encode() + " ".join(block.digest for _, some in stretch for block in some).encode())
-                inputs.append(Stretch(name, low, high, tuple(segment for segment, _ in stretch)))
-            yield Task(key, part, query, tuple(inputs), self.part_file(key, part, found.hexdigest()[:32]), self.program)
-
-    def part_file(self, key: str, part: Part, digest: str) -> str:
-        return os.path.join(self.out, "parts", key, f"{part.number:06d}-{digest}.csv")
+                segments = tuple(blocks.stretch_of(files, low, high)) if low < high else ()
+                digests = " ".join(block.digest for segment in segments for block in segment.blocks)
+                found.update(f"\n{name} {low} {high} {digests}".encode())
+                inputs.append(Stretch(name, low, high, segments))
+            file = os.path.join(self.out, "parts", key, f"{part.number:06d}-{found.hexdigest()[:32]}.csv")
+            yield Task(key, part, query, tuple(inputs), file, self.program)
 
     @staticmethod
     def whole_name(key: str) -> str:
@@ -308,10 +296,9 @@ class Plan:
 
     def notes(self) -> Iterator[str]:
         """Notes on the cuts, and on inputs whose clocks or scales differ."""
-        if self.moved and self.domain.period > 1:
-            yield f"cuts that were moved to the grid of every {self.domain.period} ticks, or into the domain: {self.moved}"
-        elif self.moved:
-            yield f"cuts that were moved into the domain: {self.moved}"
+        if self.moved:
+            grid = f"to the grid of every {self.domain.period} ticks, or " if self.domain.period > 1 else ""
+            yield f"cuts that were moved {grid}into the domain: {self.moved}"
         if self.fewer:
             yield f"cuts that had no place of their own in the domain, so that there are fewer parts: {self.fewer}"
         found: dict[str, list[str]] = {}
@@ -322,6 +309,10 @@ class Plan:
         for clash, keys in found.items():
             more = f" and {len(keys) - 1} more" if len(keys) > 1 else ""
             yield f"note: {clash}" + (f" (the key {keys[0]}{more})" if keys[0] else "")
+
+
+def rows_of(files: Mapping[str, list[Indexed]]) -> int:
+    return sum(one.rows for its in files.values() for one in its)
 
 
 class Listing:
@@ -337,28 +328,25 @@ class Listing:
                 found = json.load(file)["outputs"]
             self.outputs = {name: entry for name, entry in found.items() if os.path.basename(name) == name}
 
-    def write_changes(self) -> None:
-        if self.changed:
-            self.write()
-
     def write(self) -> None:
+        """Writes what was changed."""
+        if not self.changed:
+            return
         self.changed, self.written = False, time.monotonic()
+        # A line for each output, by the encoder that takes no indents and is much faster.
+        lines = ",\n".join(f"  {json.dumps(name)}: {json.dumps(entry)}" for name, entry in self.outputs.items())
+        text = f'{{\n "tilt-data": 1,\n "version": {json.dumps(VERSION)},\n "outputs": {{\n{lines}\n }}\n}}\n'
         # All files that are half written are in `parts`, which only a call with the lock writes to.
         new = os.path.join(self.folder, "parts", "outputs.json")
         with placed(new) as file:
-            file.write(self.text().encode())
+            file.write(text.encode())
         os.replace(new, os.path.join(self.folder, "outputs.json"))
-
-    def text(self) -> str:
-        # A line for each output, by the encoder that takes no indents and is much faster.
-        lines = ",\n".join(f"  {json.dumps(name)}: {json.dumps(entry)}" for name, entry in self.outputs.items())
-        return f'{{\n "tilt-data": 1,\n "version": {json.dumps(VERSION)},\n "outputs": {{\n{lines}\n }}\n}}\n'
 
     def add(self, names: list[str]) -> None:
         """Lists the outputs that a call is going to write."""
-        if any(name not in self.outputs for name in names):
-            self.outputs = {**dict.fromkeys(names), **self.outputs}
-            self.write()
+        self.changed |= any(name not in self.outputs for name in names)
+        self.outputs = {**dict.fromkeys(names), **self.outputs}
+        self.write()
 
     def digest(self, name: str) -> str | None:
         """The digest of the parts of an output; None if the file isn't there as it was joined."""
@@ -385,8 +373,7 @@ class Listing:
                 os.makedirs(os.path.join(self.folder, "earlier"), exist_ok=True)
                 os.replace(os.path.join(self.folder, name), os.path.join(self.folder, "earlier", name))
                 moved += 1
-        if moved or self.changed:
-            self.write()
+        self.write()
         return moved
 
 
@@ -417,43 +404,39 @@ class Run:
     """A plan that is carried out on an engine."""
 
     def __init__(self, plan: Plan, its: engine.Engine, listing: Listing, progress: bool) -> None:
-        self.plan = plan
-        self.engine = its
-        self.listing = listing
-        self.progress = progress
+        self.plan, self.engine, self.listing, self.progress = plan, its, listing, progress
         self.scaled = Scaled()
         self.left: dict[str, int] = {}
         self.files: dict[str, list[tuple[Part, str]]] = {}
         self.small: list[Task] = []
 
     def carry_out(self, part_rows: int) -> Scaled:
-        self.plan.choose_wholes(part_rows)
+        plan, scaled = self.plan, self.scaled
+        plan.choose_wholes(part_rows)
         self.make_indexes()
-        for key in self.plan.files:
-            self.plan.cut(key, part_rows)
-        names = [self.plan.whole_name(key) for key in self.plan.files]
+        for key in plan.files:
+            plan.cut(key, part_rows)
+        names = [plan.whole_name(key) for key in plan.files]
         self.listing.add(names)
         try:
             self.make_parts()
         finally:
-            self.listing.write_changes()
-        self.scaled.outputs = dict(sorted(self.scaled.outputs.items()))
-        self.scaled.notes = list(self.plan.notes())
-        if self.scaled.made == self.scaled.parts and self.scaled.rows > 2 * self.plan.rows:
-            times = self.scaled.rows / self.plan.rows
-            cure = "larger parts by --part-rows read fewer"
-            self.scaled.notes.append(f"each row was read {times:.1f} times, since the query looks far: {cure}")
+            self.listing.write()
+        scaled.outputs = dict(sorted(scaled.outputs.items()))
+        scaled.notes = list(plan.notes())
+        if scaled.made == scaled.parts and scaled.rows > 2 * plan.rows:
+            times = f"each row was read {scaled.rows / plan.rows:.1f} times, since the query looks far"
+            scaled.notes.append(f"{times}: larger parts by --part-rows read fewer")
         moved = self.listing.set_aside(names)
         if moved:
-            self.scaled.notes.append(f"outputs of earlier calls that aren't of this one, moved to {self.plan.out}/earlier: {moved}")
-        self.scaled.again = sum(self.engine.failures.values())
-        self.scaled.workers = self.engine.most
-        return self.scaled
+            scaled.notes.append(f"outputs of earlier calls that aren't of this one, moved to {plan.out}/earlier: {moved}")
+        scaled.again, scaled.workers = sum(self.engine.failures.values()), self.engine.most
+        return scaled
 
     def make_indexes(self) -> None:
         wanted = list(self.plan.unindexed())
         waiting = collections.deque(enumerate(wanted, 1))
-        with self.bar(sum(len(one.paths) for one in wanted), "files") as bar:
+        with Bar(sum(len(one.paths) for one in wanted), "files", self.progress) as bar:
             while waiting or self.engine.begun:
                 while waiting and self.engine.has_room():
                     number, indexing = waiting.popleft()
@@ -467,7 +450,7 @@ class Run:
         """Makes all parts that are missing, and the whole of each key as soon as its last part is there."""
         self.scaled.parts = sum(len(cuts) + 1 for cuts in self.plan.cuts.values())
         waiting = self.missing()
-        with self.bar(self.scaled.parts, "parts") as bar:
+        with Bar(self.scaled.parts, "parts", self.progress) as bar:
             self.counted = bar
             task = next(waiting, None)
             while task is not None or self.engine.begun:
@@ -480,17 +463,14 @@ class Run:
                     self.take(*self.ended())
 
     def begin(self, task: Task) -> None:
-        """Starts the task of a part; small keys wait until they are enough for a task."""
-        if not self.is_small(task):
+        """Starts the task of a part. If there are many keys, parts that are the whole of a key with small files wait until they are enough
+        for a task."""
+        if len(self.plan.files) < MANY or not self.plan.is_small(task.key):
             self.engine.begin(name_of(task), tasks.make_part, task)
             return
         self.small.append(task)
         if len(self.small) >= TOGETHER:
             self.begin_keys()
-
-    def is_small(self, task: Task) -> bool:
-        """Whether a part is the whole of a key whose files are small, and many keys are to be made."""
-        return len(self.plan.files) >= MANY and self.plan.is_small(task.key)
 
     def begin_keys(self) -> None:
         """Starts one task for the small keys that wait."""
@@ -503,9 +483,11 @@ class Run:
         return Joining(key, tuple(self.files[key]), self.plan.whole_file(key))
 
     def missing(self) -> Iterator[Task]:
-        """The tasks of all parts whose files aren't there. A key whose output is there has none."""
+        """The tasks of all parts whose files aren't there. A key whose output is there, joined from the parts that this call would make, has
+        none."""
         for key in self.plan.files:
-            if self.is_done(key):
+            digest = self.listing.digest(self.plan.whole_name(key))
+            if digest is not None and digest == parts_digest(task.file for task in self.plan.tasks(key)):
                 self.counted.step(len(self.plan.cuts[key]) + 1)
                 self.scaled.outputs[urllib.parse.unquote(key) or ALONE] = self.plan.whole_file(key)
                 continue
@@ -517,12 +499,8 @@ class Run:
                 else:
                     yield task
 
-    def is_done(self, key: str) -> bool:
-        """Whether the output of a key is there, joined from the parts that this call would make."""
-        digest = self.listing.digest(self.plan.whole_name(key))
-        return digest is not None and digest == parts_digest(task.file for task in self.plan.tasks(key))
-
     def finish(self, key: str) -> None:
+        """Counts a part of a key that is there; after the last one the whole is made."""
         self.counted.step()
         self.left[key] -= 1
         if not self.left[key]:
@@ -532,15 +510,19 @@ class Run:
 
     def take_keys(self, keys: Keys, made: Made) -> None:
         """Takes what a task made of small keys. What it left gets tasks of its own."""
-        for (task, joining), (part, whole) in zip(keys.keys, made.of_keys):
+        for (task, joining), part in zip(keys.keys, made.of_keys):
             self.count(task, part)
             self.counted.step()
             del self.left[task.key], self.files[task.key]
-            self.take(joining, whole)
+            self.take_whole(joining)
         if time.monotonic() > self.listing.written + BETWEEN:
-            self.listing.write_changes()
+            self.listing.write()
         for task, _ in keys.keys[len(made.of_keys) :]:
             self.engine.begin(name_of(task), tasks.make_part, task)
+
+    def take_whole(self, joining: Joining) -> None:
+        self.listing.note(self.plan.whole_name(joining.key), parts_digest(file for _, file in joining.parts))
+        self.scaled.outputs[urllib.parse.unquote(joining.key) or ALONE] = joining.file
 
     def count(self, task: Task, part: Made) -> None:
         self.scaled.about |= any(segment.whole and segment.length > blocks.EDGE for its in task.inputs for segment in its.segments)
@@ -549,32 +531,23 @@ class Run:
         self.scaled.program_seconds += part.program_seconds
 
     def take(self, argument: Any, made: Made) -> None:
+        """Takes what a task of parts made."""
         if isinstance(argument, Keys):
             self.take_keys(argument, made)
-            return
-        if isinstance(argument, Joining):
-            if made.status:
-                raise Refused(made.line)
-            self.listing.note(self.plan.whole_name(argument.key), parts_digest(file for _, file in argument.parts))
-            self.scaled.outputs[urllib.parse.unquote(argument.key) or ALONE] = argument.file
-            return
-        if made.status:
+        elif made.status and isinstance(argument, Task):
             raise TiltError(f"{name_of(argument)}: {made.line}", made.status, made.place)
-        self.count(argument, made)
-        self.finish(argument.key)
+        elif made.status:
+            raise Refused(made.line)
+        elif isinstance(argument, Joining):
+            self.take_whole(argument)
+        else:
+            self.count(argument, made)
+            self.finish(argument.key)
 
     def ended(self) -> tuple[Any, Made]:
         argument, made = self.engine.ended()
         self.scaled.task_seconds += made.seconds
         return argument, made
-
-    @contextlib.contextmanager
-    def bar(self, total: int, unit: str) -> Iterator[Bar]:
-        bar = Bar(total, unit, self.progress)
-        try:
-            yield bar
-        finally:
-            bar.close()
 
 
 def name_of(task: Task) -> str:
@@ -602,9 +575,9 @@ def scale(
     """Runs a query over many files, several parts at a time, as `tilt-data scale` does with the same options. The files of an input are a
     name or several, with {key}, * and ? as there. Without a scheduler the parts run on threads of this process, which call the program."""
     begun = time.monotonic()
-    for name, least, value in (("part_rows", 1, part_rows), ("retries", 0, retries), ("workers", 1, 1 if workers is None else workers)):
+    for name, least, value in (("part-rows", 1, part_rows), ("retries", 0, retries), ("workers", 1, 1 if workers is None else workers)):
         if value < least:
-            raise Refused(f"{name.replace('_', '-')}: {least} or more was expected")
+            raise Refused(f"{name}: {least} or more was expected")
     if scheduler is not None:
         engine.imported()
     named = {

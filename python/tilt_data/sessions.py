@@ -7,10 +7,8 @@ from typing import Iterable, Mapping
 from . import program
 from .errors import TiltError
 from .explain import Explained
-from .files import HEADER, failing_at
+from .files import HEADER_LINE, failing_at
 from .why import refusal_of
-
-HEADER_LINE = (",".join(HEADER) + "\n").encode()
 
 
 def call(words: list[str], out: str) -> None:

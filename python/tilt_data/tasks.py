@@ -11,41 +11,16 @@ import time
 from typing import Callable, TypeVar
 
 from . import blocks, parts
-from .blocks import Segment, Stamp, stamp_of
-from .errors import Refused
-from .files import Together, placed, scratch
+from .blocks import Indexed, Stamp, stamp_of
+from .errors import Refused, TiltError
+from .files import HEADER_LINE, Together, placed, scratch
 from .parts import Part
 from .program import REFUSALS, Processes, program
 from .why import Refusal, refusal_of
 
 # The header with a byte order mark before it and CR LF after it. What is only empty lines before the first row is longer.
-LONGEST_HEADER = len(blocks.MARK) + len(parts.LINE) + 1
+LONGEST_HEADER = len(blocks.MARK) + len(HEADER_LINE) + 1
 T = TypeVar("T")
-
-
-class Failed(Exception):
-    """A task that didn't end, by a fault of the machine: it can be started again."""
-
-
-class Rejected(Exception):
-    """The program rejected a query or a series: the line that it printed, and its status."""
-
-    def __init__(self, line: str, status: int) -> None:
-        super().__init__(line)
-        self.line = line
-        self.status = status
-
-
-def run(processes: Processes, words: list[str], out: int) -> None:
-    """Runs the program with its output to a descriptor. Raises Rejected or Failed for a status that isn't 0."""
-    called = processes.call(["run", *words], out)
-    line = called.told.rstrip("\n")
-    if called.status in REFUSALS:
-        raise Rejected(line, called.status)
-    if called.status:
-        raise Failed(line or f"the program exited with status {called.status}")
-
-
 # On a cluster, a worker's tasks run until they end or the worker is killed.
 UNSTOPPED = Processes()
 
@@ -57,7 +32,7 @@ class Stretch:
     name: str
     low: int
     high: int
-    segments: tuple[Segment, ...]
+    segments: tuple[Indexed, ...]
 
 
 @dataclasses.dataclass(frozen=True)
@@ -75,17 +50,16 @@ class Task:
 
 @dataclasses.dataclass(frozen=True)
 class Made:
-    """How a task went: its seconds and those of the program in it, the rows and bytes that the program got. If something was rejected: the
-    line, the status and the place."""
+    """How a task went: its seconds and those of the program in it, and the rows that the program got. If something was rejected: the line,
+    the status and the place. Of a task of several keys what was made of each."""
 
     seconds: float = dataclasses.field(default=0.0, compare=False)
     program_seconds: float = 0.0
     rows: int = 0
-    size: int = 0
     line: str = ""
     status: int = 0
     place: Refusal | None = None
-    of_keys: tuple[tuple[Made, Made], ...] = ()
+    of_keys: tuple[Made, ...] = ()
 
 
 @dataclasses.dataclass(frozen=True)
@@ -132,6 +106,8 @@ def task(make: Callable[[T, Processes], Made]) -> Callable[..., Made]:
         begun = time.perf_counter()
         try:
             made = make(argument, processes)
+        except TiltError as rejected:
+            return Made(line=rejected.line, status=rejected.status, place=rejected.place)
         except Refused as refused:
             return Made(line=str(refused), status=1)
         return dataclasses.replace(made, seconds=time.perf_counter() - begun)
@@ -141,11 +117,10 @@ def task(make: Callable[[T, Processes], Made]) -> Callable[..., Made]:
 
 @task
 def make_indexes(indexing: Indexing, processes: Processes) -> Made:
-    rows = size = 0
     for path in indexing.paths:
-        made = blocks.found_index(path, indexing.folder) or blocks.make_index(path, indexing.folder, processes.check)
-        rows, size = rows + made.rows, size + made.stamp[0]
-    return Made(rows=rows, size=size)
+        if blocks.found_index(path, indexing.folder) is None:
+            blocks.make_index(path, indexing.folder, processes.check)
+    return Made()
 
 
 @task
@@ -154,16 +129,8 @@ def make_part(task: Task, processes: Processes) -> Made:
     if os.path.exists(task.file):
         return Made()
     check_program(task)
-    with scratch() as folder:
-        words, rows, size = laid_out(task, folder)
-        started = time.perf_counter()
-        try:
-            with placed(task.file) as out:
-                run(processes, words, out.fileno())
-                check_unchanged(task)
-        except Rejected as rejected:
-            return rejected_part(task, words, rejected)
-        return Made(0.0, time.perf_counter() - started, rows, size)
+    with scratch() as folder, placed(task.file) as out:
+        return run(processes, task, folder, out.fileno())
 
 
 @task
@@ -173,27 +140,19 @@ def make_keys(keys: Keys, processes: Processes) -> Made:
     brought to the disk together, and then take their names."""
     made: list[Made] = []
     with contextlib.suppress(OSError, Refused):
-        made = made_together(keys, processes)
-    return Made(0.0, sum(one.program_seconds for one in made), of_keys=tuple((one, Made()) for one in made))
-
-
-def made_together(keys: Keys, processes: Processes) -> list[Made]:
-    made: list[Made] = []
-    check_program(keys.keys[0][0])
-    with scratch() as folder, Together() as together:
-        for task, joining in keys.keys:
-            try:
-                words, rows, size = laid_out(task, folder)
-                out = together.begin(among_parts(joining), joining.file)
-                started = time.perf_counter()
-                run(processes, words, out)
-                check_unchanged(task)
-                made.append(Made(0.0, time.perf_counter() - started, rows, size))
-            except (Failed, Rejected, Refused, OSError):
-                together.keep(len(made))
-                break
-        together.commit()
-    return made
+        check_program(keys.keys[0][0])
+        with scratch() as folder, Together() as together:
+            for task, joining in keys.keys:
+                # In the folder that has the parts of all keys.
+                beside = os.path.join(os.path.dirname(os.path.dirname(task.file)), "whole.csv")
+                try:
+                    made.append(run(processes, task, folder, together.begin(beside, joining.file)))
+                except (Refused, OSError):
+                    together.keep(len(made))
+                    break
+            together.commit()
+            return Made(of_keys=tuple(made))
+    return Made()
 
 
 def check_program(task: Task) -> None:
@@ -203,37 +162,61 @@ def check_program(task: Task) -> None:
         raise Refused(f"{path} on {os.uname().nodename} isn't the program of the call")
 
 
-def laid_out(task: Task, folder: str) -> tuple[list[str], int, int]:
-    """Writes the query and the rows of each input to a folder: the arguments of `run`, and how many rows and bytes they are."""
+def run(processes: Processes, task: Task, folder: str, out: int) -> Made:
+    """Runs the program with its output to a descriptor; its files are in the folder. What it rejects is a TiltError, with the place in the
+    series that a row is from. Another status that isn't 0 is a fault of the machine, and the task can be started again."""
+    words, rows = laid_out(task, folder)
+    started = time.perf_counter()
+    called = processes.call(["run", *words], out)
+    line = called.told.rstrip("\n")
+    if called.status in REFUSALS:
+        if line.startswith("tilt: 3 file too long: "):
+            raise TiltError(f"{line}, which are the rows of this part: fewer by --part-rows", called.status)
+        place = refusal_of(line, words)
+        for stretch in task.inputs:
+            if place is not None and place.line is not None and place.file == rows_path(folder, stretch.name):
+                file, number = place_in(stretch, place.line)
+                place = dataclasses.replace(place, file=file, line=number)
+        raise TiltError(line, called.status, place)
+    if called.status:
+        raise ChildProcessError(line or f"the program exited with status {called.status}")
+    # A series that the program read itself may have been changed meanwhile.
+    for stretch in task.inputs:
+        if is_whole(stretch):
+            blocks.check_stamp(stretch.segments[0])
+    return Made(0.0, time.perf_counter() - started, rows)
+
+
+def laid_out(task: Task, folder: str) -> tuple[list[str], int]:
+    """Writes the query and the rows of each input to a folder: the arguments of `run`, and how many rows they are."""
     query = os.path.join(folder, "query.tilt")
     with open(query, "w", encoding="utf-8", newline="") as file:
         file.write(task.query)
     files = {stretch.name: given(stretch, folder) for stretch in task.inputs}
-    words = [query, *(f"{name}={path}" for name, (path, _, _) in files.items())]
-    return words, sum(rows for _, rows, _ in files.values()), sum(size for _, _, size in files.values())
+    return [query, *(f"{name}={path}" for name, (path, _) in files.items())], sum(rows for _, rows in files.values())
 
 
-def given(stretch: Stretch, folder: str) -> tuple[str, int, int]:
-    """A file with the rows of an input that a part needs, and how many rows and bytes they are: the series itself if the part needs all of
-    it, and otherwise a file in the folder."""
+def given(stretch: Stretch, folder: str) -> tuple[str, int]:
+    """A file with the rows of an input that a part needs, and how many rows they are: the series itself if the part needs all of it, and
+    otherwise a file in the folder."""
     if is_whole(stretch):
         segment = stretch.segments[0]
         if segment.whole:
             blocks.check_stamp(segment)
-            return segment.path, segment.rows, segment.length
+            return segment.path, segment.rows
         data = blocks.bytes_of(segment)
         if blocks.trimmed(data, stretch.low, stretch.high) == (0, len(data), 0):
-            return segment.path, segment.rows, segment.length
-    path, rows, size = rows_path(folder, stretch.name), 0, 0
+            return segment.path, segment.rows
+    path, rows = rows_path(folder, stretch.name), 0
     with open(path, "wb") as file:
-        file.write(parts.LINE)
+        file.write(HEADER_LINE)
         for segment in stretch.segments:
             data = blocks.bytes_of(segment)
             begin, end, left = blocks.trimmed(data, stretch.low, stretch.high)
             file.write(memoryview(data)[begin:end])
             file.write(b"" if data.endswith(b"\n", begin, end) or begin == end else b"\n")
-            rows, size = rows + segment.rows - left, size + end - begin
-    return path, rows, size
+            rows += segment.rows - left
+    return path, rows
 
 
 def is_whole(stretch: Stretch) -> bool:
@@ -245,27 +228,8 @@ def is_whole(stretch: Stretch) -> bool:
     return ends and segment.file == segment.path and segment.path == os.fsencode(segment.path).decode(errors="replace")
 
 
-def check_unchanged(task: Task) -> None:
-    """Raises a Refused if a series that the program read itself was changed meanwhile."""
-    for stretch in task.inputs:
-        if is_whole(stretch):
-            blocks.check_stamp(stretch.segments[0])
-
-
 def rows_path(folder: str, name: str) -> str:
     return os.path.join(folder, f"rows.{name}.csv")
-
-
-def rejected_part(task: Task, words: list[str], rejected: Rejected) -> Made:
-    """What the program rejected in a part, with its place in the series that the row is from."""
-    place = refusal_of(rejected.line, words)
-    if rejected.line.startswith("tilt: 3 file too long: "):
-        return Made(line=f"{rejected.line}, which are the rows of this part: fewer by --part-rows", status=rejected.status)
-    for stretch in task.inputs:
-        if place is not None and place.line is not None and place.file == rows_path(os.path.dirname(words[0]), stretch.name):
-            file, line = place_in(stretch, place.line)
-            place = dataclasses.replace(place, file=file, line=line)
-    return Made(line=rejected.line, status=rejected.status, place=place)
 
 
 def place_in(stretch: Stretch, line: int) -> tuple[str, int]:
@@ -286,13 +250,9 @@ def place_in(stretch: Stretch, line: int) -> tuple[str, int]:
 @task
 def make_whole(joining: Joining, processes: Processes) -> Made:
     # Among the parts of its key, where only its call writes.
-    new = os.path.join(os.path.dirname(joining.parts[0][1]), "whole.csv")
-    with placed(new) as out:
-        parts.join(list(joining.parts), out, processes.check)
-    os.replace(new, joining.file)
+    beside = os.path.join(os.path.dirname(joining.parts[0][1]), "whole.csv")
+    with Together() as together:
+        with open(together.begin(beside, joining.file), "wb", closefd=False) as out:
+            parts.join(list(joining.parts), out, processes.check)
+        together.commit()
     return Made()
-
-
-def among_parts(joining: Joining) -> str:
-    """Where the output of a small key is written before it is moved to its place: in the folder that has those of the parts of all keys."""
-    return os.path.join(os.path.dirname(os.path.dirname(joining.parts[0][1])), "whole.csv")

@@ -9,7 +9,7 @@ from typing import Any, Iterator
 from .clock import TIMES, Clock, duration_of, moment_text, zone_of
 from .convert import row_text
 from .errors import Refused
-from .files import Notes, Outputs, Row, check_replaceable, notes_of_like, notes_path, same_file
+from .files import HEADER_LINE, Notes, Outputs, Row, check_replaceable, notes_of_like, notes_path, same_file
 from .progress import shown
 
 HELP = """Writes a helper series, with its JSON file beside, on the clock of the series that --like names. KIND is one of these:
@@ -56,7 +56,7 @@ def main(words: argparse.Namespace) -> int:
     if lo >= hi:
         raise Refused(f"the stretch from {words.begin} to {words.end} has no tick")
     with Outputs() as outputs:
-        outputs.write(words.out, "start,end,value\n")
+        outputs.write(words.out, HEADER_LINE.decode())
         for row in shown(rows_of_kind(words, clock, lo, hi), "rows"):
             outputs.write(words.out, row_text(row))
         outputs.write(notes_path(words.out), Notes(clock, 1, "helper", words.kind, None, words.zone).text())
