@@ -4,7 +4,7 @@ from __future__ import annotations
 import dataclasses
 from typing import NoReturn
 
-from .tokens import NOTHING, REDUCERS, RESERVED, Faulty, Token, tokens_of
+from .tokens import NOTHING, REDUCERS, RESERVED, Faulty, Token, place, tokens_of
 
 MOST_STATEMENTS = 256
 MOST_TOKENS = 256
@@ -46,36 +46,30 @@ class Statement:
 
 def statements_of(text: bytes) -> list[Statement]:
     """The statements of a query that the grammar has."""
-    tokens = tokens_of(text)
     parts: list[list[Token]] = []
-    begun: list[Token] = []
-    for token in tokens:
-        begun.append(token)
-        if token.kind == ";":
-            parts.append(begun)
-            begun = []
-    parts += [begun] if begun else []
+    is_new = True
+    for token in tokens_of(text):
+        if is_new:
+            parts.append([])
+        parts[-1].append(token)
+        is_new = token.kind == ";"
     if len(parts) > MOST_STATEMENTS:
         first = parts[MOST_STATEMENTS][0]
         raise Faulty("22 too many statements", first, f"at most {MOST_STATEMENTS} statements were expected", "put definitions together")
     if not parts:
-        end = Token("", "", len(text.rstrip()), len(text.rstrip()))
-        raise Faulty("25 statement 1: place of emit", end, "a query was expected, which ends with `emit EXPRESSION over (S, E];`")
+        end = place(len(text.rstrip()), len(text.rstrip()))
+        raise Faulty.of(1, "place of emit", end, "a query was expected, which ends with `emit EXPRESSION over (S, E];`")
     return [statement_of(part, number, number == len(parts)) for number, part in enumerate(parts, 1)]
 
 
 def statement_of(tokens: list[Token], number: int, last: bool) -> Statement:
     if len(tokens) > MOST_TOKENS:
-        raise Faulty(
-            f"23 statement {number}: too long",
-            tokens[MOST_TOKENS],
-            f"at most {MOST_TOKENS} tokens were expected",
-            "name a part of it by `let`",
-        )
+        what = f"at most {MOST_TOKENS} tokens were expected"
+        raise Faulty.of(number, "too long", tokens[MOST_TOKENS], what, "name a part of it by `let`")
     statement = Reader(tokens, number).statement()
     if (statement.form == "emit") != last:
         what = "the query has to end with this `emit`" if not last else "the last statement has to be the `emit`"
-        raise Faulty(f"25 statement {number}: place of emit", tokens[0], what, "end the query with its one `emit EXPRESSION over (S, E];`")
+        raise Faulty.of(number, "place of emit", tokens[0], what, "end the query with its one `emit EXPRESSION over (S, E];`")
     return statement
 
 
@@ -85,8 +79,7 @@ class Reader:
     def __init__(self, tokens: list[Token], number: int) -> None:
         end = tokens[-1].end
         self.tokens = tokens + [Token("the end", "the end of the text", end, end)]
-        self.at = 0
-        self.number = number
+        self.at, self.number = 0, number
 
     @property
     def next(self) -> Token:
@@ -111,57 +104,40 @@ class Reader:
     def refuse(self, expected: str, after: str = "") -> NoReturn:
         token = self.next
         found = token.text if token.kind == "the end" else f"`{token.text}`"
-        raise Faulty(f"24 statement {self.number}: syntax", token, f"{expected} was expected{after}, not {found}", self.cure(expected))
+        raise Faulty.of(self.number, "syntax", token, f"{expected} was expected{after}, not {found}", self.cure(expected))
 
     def cure(self, expected: str) -> str:
         """What is mostly meant where this token stands."""
-        token, before = self.next, self.tokens[self.at - 1] if self.at else None
-        if token.kind in ("input", "let", "emit") and before is not None:
+        token, before = self.next, self.tokens[self.at - 1] if self.at else NOTHING
+        kind, ends_emit = token.kind, expected == "an operator or `over`"
+        if kind in ("input", "let", "emit") and self.at:
             return f"end the statement before it by `;`, after `{before.text}`"
-        if token.kind == "the end":
-            if expected == "an operator or `over`":
-                return "an emit says for which ticks it prints, as over (0, 100]; and ends with `;`"
-            return "a statement ends with `;`"
         if token.text in RESERVED and expected == NAMES["name"]:
             return f"`{token.text}` is a reserved word: take another name"
-        if token.kind in COMPARISONS:
-            return "a comparison of comparisons needs parentheses; between two limits write a < x and x < b"
-        if token.text.lower() in RESERVED and token.kind == "name":
-            return f"reserved words are written in small letters: {token.text.lower()}"
-        return self.cure_of_sign(token, before, expected)
-
-    def cure_of_sign(self, token: Token, before: Token | None, expected: str) -> str:
-        cures = {
-            ("]", ")"): "a span has its end in it, and is written over (0, 10]",
-            ("`(`", "["): "a span begins with `(`: over (0, 10]",
-            ("`t`", "number"): "an offset is written from t: x[t-2]",
-            ("`t`", "-"): "an offset is written from t: x[t-2]",
-            ("`[`", ")"): "a reducer needs a window, as avg(x[t-10:t])",
-            ("`:`", "]"): "a window has two ends, as x[t-10:t]",
-        }
-        found = cures.get((expected.strip("`") if token.kind == ")" and expected == "`]`" else expected, token.kind))
-        if found:
-            return found
-        if token.kind == "=" and expected != "`=`":
-            return "equal is written `==`"
-        if before is not None and before.kind == "/" and token.kind == "/":
-            return "there are no comments: take them out, as by sed 's#//.*##'"
-        if token.kind in ("if", "not") and expected == OPERAND:
-            return f"put it in parentheses, as ({token.text} ..)"
-        return self.cure_of_words(token, before, expected)
-
-    def cure_of_words(self, token: Token, before: Token | None, expected: str) -> str:
-        if before is not None and before.kind == "number" and token.kind == "name":
-            return "numbers have no units: write ticks"
-        if before is not None and before.kind == "name" and token.kind == "(":
-            return "the reducers are " + ", ".join(REDUCERS)
-        if expected == "`[`":
-            return "a window is over one name: give the expression a name by `let` first"
-        if token.kind == "over":
-            return "close the parenthesis before it" if expected == "`)`" else "`over` comes before `every`, and only once"
-        if token.kind == "every" and expected == "an operator or `over`":
-            return "`over` comes before `every`: over (0, 100] every 10"
-        return ""
+        cures = [
+            (kind == "the end" and ends_emit, "an emit says for which ticks it prints, as over (0, 100]; and ends with `;`"),
+            (kind == "the end", "a statement ends with `;`"),
+            (kind in COMPARISONS, "a comparison of comparisons needs parentheses; between two limits write a < x and x < b"),
+            (
+                token.text.lower() in RESERVED and kind == "name",
+                f"reserved words are written in small letters: {token.text.lower()}",
+            ),
+            (expected == "`]`" and kind == ")", "a span has its end in it, and is written over (0, 10]"),
+            (expected == "`(`" and kind == "[", "a span begins with `(`: over (0, 10]"),
+            (expected == "`t`" and kind in ("number", "-"), "an offset is written from t: x[t-2]"),
+            (expected == "`[`" and kind == ")", "a reducer needs a window, as avg(x[t-10:t])"),
+            (expected == "`:`" and kind == "]", "a window has two ends, as x[t-10:t]"),
+            (kind == "=" and expected != "`=`", "equal is written `==`"),
+            (before.kind == kind == "/", "there are no comments: take them out, as by sed 's#//.*##'"),
+            (kind in ("if", "not") and expected == OPERAND, f"put it in parentheses, as ({token.text} ..)"),
+            (before.kind == "number" and kind == "name", "numbers have no units: write ticks"),
+            (before.kind == "name" and kind == "(", "the reducers are " + ", ".join(REDUCERS)),
+            (expected == "`[`", "a window is over one name: give the expression a name by `let` first"),
+            (kind == "over" and expected == "`)`", "close the parenthesis before it"),
+            (kind == "over", "`over` comes before `every`, and only once"),
+            (kind == "every" and ends_emit, "`over` comes before `every`: over (0, 100] every 10"),
+        ]
+        return next((cure for is_so, cure in cures if is_so), "")
 
     def statement(self) -> Statement:
         form = self.next.kind
@@ -185,15 +161,14 @@ class Reader:
 
     def domain(self, statement: Statement) -> None:
         """The span and the grid."""
-        if statement.form == "emit" or self.next.kind == "over":
-            if self.next.kind != "over":
-                self.refuse("an operator or `over`")
-            self.at += 1
+        if self.takes("over"):
             self.take("(", " after `over`")
             statement.bounds.append(self.bound())
             self.take(",")
             statement.bounds.append(self.bound())
             self.take("]")
+        elif statement.form == "emit":
+            self.refuse("an operator or `over`")
         if self.takes("every"):
             statement.period = self.number_of()
             if self.takes("from"):
@@ -235,44 +210,38 @@ class Reader:
     def choice(self, begin: Token) -> Node:
         parts = [self.expression()]
         for word in ("then", "else"):
-            if self.next.kind != word:
+            if not self.takes(word):
                 self.refuse(f"`{word}`", " or an operator")
-            self.at += 1
             parts.append(self.expression())
         return self.node("if", begin, parts)
 
     def atom(self) -> Node:
-        token = self.next
-        if token.kind in ("number", "true", "false"):
-            self.at += 1
-            return self.node("number" if token.kind == "number" else "truth", token, [])
-        if self.takes("("):
+        token, kind = self.next, self.next.kind
+        if kind in REDUCERS:
+            return self.window(token)
+        if kind not in ("number", "true", "false", "(", "isnull", "ifnull", "name"):
+            self.refuse(OPERAND)
+        self.at += 1
+        if kind == "(":
             inner = self.expression()
             self.take(")", " or an operator")
             return dataclasses.replace(inner, begin=token.begin, end=self.end)
-        if token.kind in ("isnull", "ifnull"):
-            return self.null_test(token)
-        if token.kind in REDUCERS:
-            return self.window(token)
-        if token.kind != "name":
-            self.refuse(OPERAND)
-        self.at += 1
+        if kind in ("isnull", "ifnull"):
+            self.take("(")
+            parts = [self.expression()]
+            if kind == "ifnull":
+                self.take(",", " or an operator")
+                parts.append(self.expression())
+            self.take(")", " or an operator")
+            return self.node(kind, token, parts)
+        if kind != "name":
+            return self.node("number" if kind == "number" else "truth", token, [])
         node = Node("reading", token, token.begin, token.end, name=token)
         if self.takes("["):
             node.low = node.high = self.offset()
             self.take("]", " after an offset")
             node.end = self.end
         return node
-
-    def null_test(self, token: Token) -> Node:
-        self.at += 1
-        self.take("(")
-        parts = [self.expression()]
-        if token.kind == "ifnull":
-            self.take(",", " or an operator")
-            parts.append(self.expression())
-        self.take(")", " or an operator")
-        return self.node(token.kind, token, parts)
 
     def window(self, token: Token) -> Node:
         self.at += 1

@@ -21,8 +21,16 @@ class Token:
     end: int
 
 
+def place(begin: int, end: int, text: str = "") -> Token:
+    """Some bytes that are to blame, though they are no token."""
+    return Token("", text, begin, end)
+
+
 # In place of a name where a statement or an expression has none.
-NOTHING = Token("", "", 0, 0)
+NOTHING = place(0, 0)
+# What can be wrong with a statement, with the program's numbers.
+FAULTS = {"too long": 23, "syntax": 24, "place of emit": 25, "name taken": 26, "unknown name": 27}
+FAULTS |= {"type mismatch": 28, "bad window": 29, "bad domain": 30}
 
 
 @dataclasses.dataclass(frozen=True)
@@ -42,6 +50,11 @@ class Faulty(Exception):
     def __init__(self, line: str, token: Token, expected: str, cure: str = "") -> None:
         super().__init__(line)
         self.fault = Fault(line, token.begin, token.end, expected, cure)
+
+    @staticmethod
+    def of(number: int, what: str, token: Token, expected: str, cure: str = "") -> Faulty:
+        """The fault of a statement with a number."""
+        return Faulty(f"{FAULTS[what]} statement {number}: {what}", token, expected, cure)
 
 
 SIGNS = {
@@ -68,28 +81,22 @@ def tokens_of(text: bytes) -> list[Token]:
         found = TOKEN.match(text, at)
         if found is None:
             raise unknown_byte(text, at)
-        token = token_of(found)
-        if token.kind == "number" and int(token.text.lstrip("0")[:20] or 0) > GREATEST_NUMBER:
-            raise Faulty(f"21 big number at {at}", token, f"a number up to {GREATEST_NUMBER} was expected")
-        tokens.append(token)
-        at = BLANKS.match(text, token.end).end()  # type: ignore[union-attr]
+        word = found.group().decode("ascii")
+        kind = "number" if found[2] is not None else "name" if found[1] is not None and word not in RESERVED else word
+        tokens.append(Token(kind, word, *found.span()))
+        if kind == "number" and int(word.lstrip("0")[:20] or 0) > GREATEST_NUMBER:
+            raise Faulty(f"21 big number at {at}", tokens[-1], f"a number up to {GREATEST_NUMBER} was expected")
+        at = BLANKS.match(text, found.end()).end()  # type: ignore[union-attr]
     return tokens
 
 
-def token_of(found: re.Match[bytes]) -> Token:
-    text = found.group().decode("ascii")
-    kind = "number" if found[2] is not None else "name" if found[1] is not None and text not in RESERVED else text
-    return Token(kind, text, *found.span())
-
-
 def unknown_byte(text: bytes, at: int) -> Faulty:
-    line, sign = f"20 bad byte at {at}", chr(text[at])
+    line, sign, end = f"20 bad byte at {at}", chr(text[at]), at + 1
     if text[at] < 128:
-        return Faulty(line, Token("", sign, at, at + 1), f"the language has no {sign!r}", SIGNS.get(sign, ""))
-    end = at + 1
+        return Faulty(line, place(at, end), f"the language has no {sign!r}", SIGNS.get(sign, ""))
     while end < len(text) and text[end] & 0xC0 == 0x80:
         end += 1
-    return Faulty(line, Token("", "", at, end), "a letter or sign of ASCII was expected", "write names without accents")
+    return Faulty(line, place(at, end), "a letter or sign of ASCII was expected", "write names without accents")
 
 
 @dataclasses.dataclass(frozen=True)
