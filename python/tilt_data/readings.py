@@ -5,11 +5,12 @@ from __future__ import annotations
 import argparse
 import dataclasses
 import heapq
+import itertools
 import os
 import pickle
 import re
 import shlex
-from typing import Any, Iterable, Iterator, Mapping
+from typing import Any, Iterable, Iterator, Mapping, NamedTuple
 
 from .clock import TIMES, Clock, Moments, duration_text, moment_text, zone_of
 from .convention import TextConvention, time_text
@@ -27,14 +28,15 @@ DECIMAL_COMMA = re.compile(r"[+-]?[0-9]+,[0-9]+")
 LONGEST_NAME = 255
 # How a tab is written in a word of the command.
 TAB = r"\t"
+
+
+# A reading: its moment, its line, its key, the name of its series, and the text of its value.
 Reading = tuple[int, int, str, str, str]
 
 
-@dataclasses.dataclass(frozen=True)
-class Columns:
-    """Where in a record stand the time, the key, the name of the series, and the values: their places and the names of their series."""
+class Columns(NamedTuple):
+    """Where in a record are the time, the key, the name of the series, and the values: their places and the names of their series."""
 
-    width: int
     time: int
     key: int | None
     name: int | None
@@ -43,7 +45,12 @@ class Columns:
 
 def add(commands: Any) -> None:
     parser = commands.add_parser("series", help="readings of a CSV to series files", description=HELP)
-    add_source(parser)
+    parser.add_argument("file", metavar="FILE", help="the CSV, or - for standard input")
+    parser.add_argument("--time", metavar="COL", help="the column of times")
+    parser.add_argument("--value", metavar="COL", nargs="+", action="extend", help="the columns of values (all others)")
+    parser.add_argument("--name", metavar="COL", help="a tall file: the column that names the series; --value is then the one value column")
+    parser.add_argument("--delimiter", default=",", help="the character between the fields; \\t is a tab (,)")
+    parser.add_argument("--decimal", default=".", help="the character before the fraction of a value (.)")
     TextConvention.add_to(parser)
     parser.add_argument("--key", metavar="COL", help="the column of a key, such as a station or a patient: a folder of series for each key")
     parser.add_argument("--prefix", action="store_true", help="KEY_NAME.csv in place of KEY/NAME.csv")
@@ -51,22 +58,6 @@ def add(commands: Any) -> None:
     parser.add_argument("--force", action="store_true", help="replace files that `tilt-data` didn't write")
     parser.add_argument("--sort", action="store_true", help="sort the readings by time first")
     parser.set_defaults(main=main)
-
-
-def add_source(parser: argparse.ArgumentParser) -> None:
-    parser.add_argument("file", metavar="FILE", help="the CSV, or - for standard input")
-    parser.add_argument("--time", metavar="COL", help="the column of times")
-    parser.add_argument("--value", metavar="COL", nargs="+", action="extend", help="the columns of values (all others)")
-    parser.add_argument("--name", metavar="COL", help="a tall file: the column that names the series; --value is then the one value column")
-    parser.add_argument("--delimiter", default=",", help="the character between the fields; \\t is a tab (,)")
-    parser.add_argument("--decimal", default=".", help="the character before the fraction of a value (.)")
-
-
-def delimiter_of(text: str) -> str:
-    sign = "\t" if text == TAB else text
-    if len(sign) != 1 or sign in '"\r\n':
-        raise Refused(f"--delimiter {text!r}: one sign was expected, or {TAB} for a tab")
-    return sign
 
 
 def column(header: list[str], name: str, path: str) -> int:
@@ -81,50 +72,40 @@ def column(header: list[str], name: str, path: str) -> int:
     return header.index(name)
 
 
-def columns_of(header: list[str], words: argparse.Namespace, path: str) -> Columns:
-    """The columns that the arguments name."""
+def columns_of(header: list[str], words: argparse.Namespace) -> Columns:
+    """The columns that the arguments name. Two of one name would become one series."""
+    path = words.file
     if words.time is None:
         raise refused_at(path, 1, f"which column has the times? --time COL; there are: {', '.join(header)}")
-    time = column(header, words.time, path)
-    key = None if getattr(words, "key", None) is None else column(header, words.key, path)
-    name = None if words.name is None else column(header, words.name, path)
-    taken = {time, key, name}
+    time, key, name = (None if title is None else column(header, title, path) for title in (words.time, words.key, words.name))
     values = [column(header, value, path) for value in words.value or []]
     for at in values:
         if values.count(at) > 1:
             raise Refused(f"--value {header[at]}: it is given twice: name each column once")
-    values = values or [at for at in range(len(header)) if at not in taken]
-    check_titles(header, values, path)
-    if not values or name is not None and len(values) != 1:
-        raise refused_at(path, 1, "one column of values was expected: name it by --value" if name is not None else "no column of values")
-    return Columns(len(header), time, key, name, [(at, header[at]) for at in values])
-
-
-def check_titles(header: list[str], values: list[int], path: str) -> None:
-    """Rejects two columns of one name: they would become one series."""
+    values = values or [at for at in range(len(header)) if at not in (time, key, name)]
     places: dict[str, int] = {}
     for at in values:
-        if header[at] in places:
-            raise refused_at(
-                path,
-                1,
-                f"the columns {places[header[at]] + 1} and {at + 1} have one name, {header[at]!r}: rename one of "
-                "them, or name the columns of values by --value",
-            )
-        places[header[at]] = at
+        if places.setdefault(header[at], at) != at:
+            what = f"the columns {places[header[at]] + 1} and {at + 1} have one name, {header[at]!r}"
+            raise refused_at(path, 1, f"{what}: rename one of them, or name the columns of values by --value")
+    if not values or name is not None and len(values) != 1:
+        raise refused_at(path, 1, "one column of values was expected: name it by --value" if name is not None else "no column of values")
+    return Columns(time or 0, key, name, [(at, header[at]) for at in values])
 
 
 def readings_of(source: str, words: argparse.Namespace) -> Iterator[Reading]:
-    """Each reading: its moment, its line, its key, the name of its series, and the text of its value. The source is the file given,
-    or a copy of it."""
-    path, moments, delimiter = words.file, Moments(words.unit, zone_of(words.zone)), delimiter_of(words.delimiter)
+    """The readings of the file that is given, or of a copy of it."""
+    path, moments = words.file, Moments(words.unit, zone_of(words.zone))
+    delimiter = "\t" if words.delimiter == TAB else words.delimiter
+    if len(delimiter) != 1 or delimiter in '"\r\n':
+        raise Refused(f"--delimiter {words.delimiter!r}: one sign was expected, or {TAB} for a tab")
     with reading(source, path) as file:
         found = records(path, file, delimiter)
         _, header = next(found, (1, [""]))
-        columns = columns_of([title.strip() for title in header], words, path)
+        columns = columns_of([title.strip() for title in header], words)
         for line, record in shown(found, "readings"):
-            if len(record) != columns.width:
-                raise refused_at(path, line, f"{columns.width} fields were expected as in the header, not {len(record)}")
+            if len(record) != len(header):
+                raise refused_at(path, line, f"{len(header)} fields were expected as in the header, not {len(record)}")
             try:
                 moment = moments.read(record[columns.time])
             except ValueError as error:
@@ -136,35 +117,25 @@ def readings_of(source: str, words: argparse.Namespace) -> Iterator[Reading]:
 
 def in_order(readings: Iterable[Reading], folder: str, most: int = 100000) -> Iterator[Reading]:
     """The readings by time, those of one moment by line: parts are put in order in memory, and merged from the folder."""
-    parts: list[str] = []
-    part: list[Reading] = []
-    for one in readings:
-        part.append(one)
-        if len(part) == most:
-            parts.append(put_part(sorted(part, key=by_time), os.path.join(folder, f"part{len(parts)}")))
-            part = []
-    part.sort(key=by_time)
-    yield from heapq.merge(*map(part_of, parts), part, key=by_time)
 
+    def by_time(one: Reading) -> tuple[int, int]:
+        return one[0], one[1]
 
-def by_time(one: Reading) -> tuple[int, int]:
-    return one[0], one[1]
+    def part_of(path: str) -> Iterator[Reading]:
+        with open(path, "rb") as file:
+            while True:
+                try:
+                    yield from pickle.load(file)
+                except EOFError:
+                    return
 
-
-def put_part(part: list[Reading], path: str) -> str:
-    with open(path, "wb") as file:
-        for at in range(0, len(part), 1000):
-            pickle.dump(part[at : at + 1000], file)
-    return path
-
-
-def part_of(path: str) -> Iterator[Reading]:
-    with open(path, "rb") as file:
-        while True:
-            try:
-                yield from pickle.load(file)
-            except EOFError:
-                return
+    readings, paths = iter(readings), list[str]()
+    while len(part := sorted(itertools.islice(readings, most), key=by_time)) == most:
+        paths.append(os.path.join(folder, f"part{len(paths)}"))
+        with open(paths[-1], "wb") as file:
+            for at in range(0, most, 1000):
+                pickle.dump(part[at : at + 1000], file)
+    yield from heapq.merge(*map(part_of, paths), part, key=by_time)
 
 
 @dataclasses.dataclass
@@ -182,34 +153,37 @@ class Written:
     end: int = 0
     nulls: int = 0
 
+    def figures(self, scale: int) -> str:
+        converter = self.converter
+        text = f"{self.rows} rows over ({self.start}, {self.end}]" if self.rows else "no rows"
+        notes = (
+            ("without a value", self.nulls),
+            ("dropped, in one tick with another", converter.dropped),
+            ("moved to the next free tick", converter.moved),
+            ("gaps after --max-age", converter.gaps),
+        )
+        scaled = [f"values times {scale}"] if scale != 1 else []
+        return ", ".join([text, *scaled, *(f"{what}: {count}" for what, count in notes if count)])
+
 
 class Converting:
-    """All series of a file while it is read, by key and name."""
+    """All series of a file while it is read, by key and name. Each has the scale that is named for it, or that of all others, which has
+    the empty name."""
 
-    def __init__(self, words: argparse.Namespace, convention: TextConvention, outputs: Outputs) -> None:
-        self.words = words
+    def __init__(self, words: argparse.Namespace, convention: TextConvention, outputs: Outputs, scales: dict[str, Scale]) -> None:
+        self.words, self.convention, self.outputs, self.scales = words, convention, outputs, scales
         self.path: str = words.file
-        self.outputs = outputs
-        self.convention = convention
-        self.clock = Clock(1, 0)
-        self.begun = False
-        self.scales = Scales({}, Scale(1))
+        # It may rest on the first reading.
+        self.clock: Clock | None = None
         self.series: dict[tuple[str, str], Written] = {}
         self.paths: set[str] = set()
 
-    def begin(self, moment: int, line: int) -> None:
-        """The clock, which may rest on the first reading, and how long readings hold."""
-        self.begun = True
-        try:
-            self.clock = self.convention.clock(moment)
-        except ValueError as error:
-            raise refused_at(self.path, line, str(error)) from error
+    def scale(self, name: str) -> Scale:
+        return self.scales.get(name, self.scales[""])
 
     def take(self, one: Reading) -> None:
         moment, line, key, name, text = one
-        if not self.begun:
-            self.begin(moment, line)
-        series = self.series.get((key, name)) or self.new(key, name, line)
+        series = self.series.get((key, name)) or self.new(one)
         is_missing = self.convention.is_missing(text)
         if is_missing and self.convention.skips_empty(name):
             return
@@ -228,13 +202,23 @@ class Converting:
             raise self.beyond(line, moment, f"the tick {series.converter.start}")
 
     def value(self, name: str, text: str, line: int) -> int:
+        """The whole number of a decimal. A point in one with another sign before its fraction can only part its thousands."""
+        sign = self.words.decimal
         try:
-            return self.scales.of(name).whole(pointed(text, self.words.decimal))
+            if sign != "." and "." in text:
+                raise ValueError(f"{text!r} has a point, and --decimal says that {sign!r} is before the fraction")
+            return self.scale(name).whole(text if sign == "." else text.replace(sign, "."))
         except ValueError as error:
-            cure = "; for a decimal comma: --decimal ," if DECIMAL_COMMA.fullmatch(text.strip()) and self.words.decimal == "." else ""
+            cure = "; for a decimal comma: --decimal ," if DECIMAL_COMMA.fullmatch(text.strip()) and sign == "." else ""
             raise refused_at(self.path, line, f"{name}: {error}{cure}") from error
 
-    def new(self, key: str, name: str, line: int) -> Written:
+    def new(self, one: Reading) -> Written:
+        """The series of a reading, which is its first one."""
+        moment, line, key, name, _ = one
+        try:
+            self.clock = self.clock or self.convention.clock(moment)
+        except ValueError as error:
+            raise refused_at(self.path, line, str(error)) from error
         if not name:
             raise refused_at(self.path, line, "a name of the series was expected")
         if self.words.key is not None and not key:
@@ -250,22 +234,22 @@ class Converting:
 
     def path_of(self, key: str, name: str, line: int) -> str:
         """The file of a series. It never is one that this call reads, and it is an unknown one only by --force."""
-        file = file_of(key, name, self.words.prefix)
-        path = file if self.words.out == "." else os.path.join(self.words.out, file)
+        words, file = self.words, safe(name) + ".csv"
+        if key:
+            file = f"{safe(key)}_{file}" if words.prefix else os.path.join(safe(key), file)
+        path = file if words.out == "." else os.path.join(words.out, file)
         if max(len(part) for part in notes_path(file).split(os.sep)) > LONGEST_NAME:
-            raise refused_at(
-                self.path,
-                line,
-                f"the name of a file has {LONGEST_NAME} bytes at most, and {notes_path(file)} is longer: "
-                f"take a shorter name than {name!r}, or a shorter key. Each byte outside of ASCII counts as three",
-            )
+            what = f"the name of a file has {LONGEST_NAME} bytes at most, and {notes_path(file)} is longer"
+            cure = f"take a shorter name than {name!r}, or a shorter key. Each byte outside of ASCII counts as three"
+            raise refused_at(self.path, line, f"{what}: {cure}")
+        cure = f"the series {name} would take its place: name a folder by --out"
         for one in (path, notes_path(path)):
             if same_file(one, self.path):
-                raise Refused(f"{one}: it is the file that is read, and the series {name} would take its place: name a folder by --out")
-            if self.words.like is not None and (same_file(one, self.words.like) or same_file(one, notes_path(self.words.like))):
-                raise Refused(f"{one}: it is the series of --like, and the series {name} would take its place: name a folder by --out")
-        if not self.words.force:
-            check_replaceable(path, f"the series {name} would take its place: name a folder by --out, or replace it by --force")
+                raise Refused(f"{one}: it is the file that is read, and {cure}")
+            if words.like is not None and (same_file(one, words.like) or same_file(one, notes_path(words.like))):
+                raise Refused(f"{one}: it is the series of --like, and {cure}")
+        if not words.force:
+            check_replaceable(path, f"{cure}, or replace it by --force")
         return path
 
     def beyond(self, line: int, moment: int, what: str) -> Refused:
@@ -276,87 +260,44 @@ class Converting:
     def put(self, series: Written, row: Row) -> None:
         start, end, value = row
         if end > TIMES:
-            raise self.beyond(series.line, self.clock.moment(start), f"a row to the tick {end}")
+            raise self.beyond(series.line, series.converter.clock.moment(start), f"a row to the tick {end}")
         series.start = series.start if series.rows else start
         series.rows, series.end, series.nulls = series.rows + 1, end, series.nulls + (value is None)
         self.outputs.write(series.path, row_text(row))
 
     def finish(self) -> None:
-        until = self.convention.until_tick(self.clock if self.begun else None)
+        """The last rows, and the JSON files. An option for a series that isn't there would have changed nothing."""
+        if self.clock is not None:
+            self.convention.check_names(sorted({name for _, name in self.series}), "series")
+        until = self.convention.until_tick(self.clock)
         for series in self.series.values():
             row = series.converter.finish(until)
             if row is not None:
                 self.put(series, row)
-            self.outputs.write(notes_path(series.path), self.notes(series).text())
-
-    def check_names(self) -> None:
-        """Refuses words that name a series which isn't there: they would have changed nothing."""
-        if self.begun:
-            self.convention.check_names(sorted({name for _, name in self.series}), "series")
-
-    def notes(self, series: Written) -> Notes:
-        kind = "event" if self.convention.is_event(series.name) else "hold"
-        key = series.key if self.words.key else None
-        return Notes(self.clock, self.scales.of(series.name).scale, kind, series.name, key, self.words.zone)
+            kind = "event" if self.convention.is_event(series.name) else "hold"
+            key = series.key if self.words.key else None
+            notes = Notes(series.converter.clock, self.scale(series.name).scale, kind, series.name, key, self.words.zone)
+            self.outputs.write(notes_path(series.path), notes.text())
 
     def told(self, most: int = 10) -> Iterator[str]:
         """A line about each of the first ten series, and how many there are after them."""
-        if not self.begun:
+        if self.clock is None:
             yield "no reading, and no series"
             return
         yield f"a tick is {duration_text(self.clock.tick)}, closed {self.clock.closed}, from {moment_text(self.clock.origin, 0)}"
         for series in list(self.series.values())[:most]:
-            yield f"{series.path}: {self.figures(series)}"
+            yield f"{series.path}: {series.figures(self.scale(series.name).scale)}"
         if len(self.series) > most:
             yield f"and {len(self.series) - most} more series"
 
-    def figures(self, series: Written) -> str:
-        converter, scale = series.converter, self.scales.of(series.name).scale
-        text = f"{series.rows} rows over ({series.start}, {series.end}]" if series.rows else "no rows"
-        notes = (
-            ("without a value", series.nulls),
-            ("dropped, in one tick with another", converter.dropped),
-            ("moved to the next free tick", converter.moved),
-            ("gaps after --max-age", converter.gaps),
-        )
-        scaled = [f"values times {scale}"] if scale != 1 else []
-        return ", ".join([text, *scaled, *(f"{what}: {count}" for what, count in notes if count)])
 
-
-def pointed(text: str, sign: str) -> str:
-    """A decimal with a point, of one with this sign before its fraction. A point in it can only part its thousands."""
-    if sign == ".":
-        return text
-    if "." in text:
-        raise ValueError(f"{text!r} has a point, and --decimal says that {sign!r} is before the fraction")
-    return text.replace(sign, ".")
-
-
-def file_of(key: str, name: str, prefix: bool) -> str:
-    """The file of a series: signs that no file's name has are written as %XX."""
-    name = safe(name) + ".csv"
-    return name if not key else f"{safe(key)}_{name}" if prefix else os.path.join(safe(key), name)
-
-
-@dataclasses.dataclass
-class Scales:
-    """The scale of each series: its own if the arguments name one, and otherwise that of all others."""
-
-    named: dict[str, Scale]
-    others: Scale
-
-    def of(self, name: str) -> Scale:
-        return self.named.get(name, self.others)
-
-
-def scales_of(words: argparse.Namespace, path: str, convention: TextConvention) -> Scales:
+def scales_of(words: argparse.Namespace, path: str, convention: TextConvention) -> dict[str, Scale]:
     """The scales that the arguments name. An `auto` without a name is one scale for all series that have none of their own."""
     given = dict(convention.scale) if isinstance(convention.scale, Mapping) else {}
     digits = digits_of(path, words, convention) if "auto" in given.values() else {}
     most = max((count for name, count in digits.items() if name not in given), default=0)
     found = {name: 10 ** (digits.get(name, 0) if name else most) for name in given}
-    scales = {name: Scale(convention.scale_of(name) or found[name]) for name in given}
-    return Scales(scales, scales.pop("") if "" in scales else Scale(convention.scale_of("") or 1))
+    return {name: Scale(int(convention.scale_of(name) or found.get(name, 1))) for name in ["", *given]}
 
 
 def digits_of(path: str, words: argparse.Namespace, convention: TextConvention) -> dict[str, int]:
@@ -384,12 +325,10 @@ def main(words: argparse.Namespace) -> int:
         raise Refused(f"--decimal {words.decimal!r}: one sign was expected, as . or ,")
     with scratch() as folder, Outputs() as outputs:
         path = spooled(words.file, folder) if "auto" in str(words.scale) else words.file
-        converting = Converting(words, convention, outputs)
-        converting.scales = scales_of(words, path, convention)
+        converting = Converting(words, convention, outputs, scales_of(words, path, convention))
         readings = readings_of(path, words)
         for one in in_order(readings, folder) if words.sort else readings:
             converting.take(one)
-        converting.check_names()
         converting.finish()
         outputs.commit()
     for line in converting.told():
