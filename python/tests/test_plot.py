@@ -357,7 +357,7 @@ def test_one_name_has_one_colour_in_all_panels():
     def drawn(name: str, form: str = "step") -> Drawn:
         return Drawn(name, f"{name}.csv", form, None, 1)
 
-    panels = [[drawn("band", "band"), drawn("x"), drawn("limit", "limit")], [drawn("y", "dots"), drawn("x")], [drawn("z"), drawn("y")]]
+    panels = [drawn("band", "band"), drawn("x"), drawn("limit", "limit"), drawn("y", "dots"), drawn("x"), drawn("z"), drawn("y")]
     assert numbers_of(panels) == {"x": 0, "y": 1, "z": 2}
     assert len({*COLOURS, LIMIT, BAND}) == len(COLOURS) + 2
 

@@ -5,7 +5,7 @@ import argparse
 import dataclasses
 import os
 import re
-from typing import Iterable, Iterator, Mapping
+from typing import Iterable, Iterator
 
 from .clock import TIMES, WHOLE, Clock
 from .errors import Refused
@@ -49,6 +49,42 @@ def add_drawn(parser: argparse.ArgumentParser, has_end: bool = True) -> None:
     parser.add_argument("--title", help="a title above it")
 
 
+class Picture:
+    """What is drawn: the files in panels; the ticks of --from and --to, None for one that isn't given; the one clock of all files, None if
+    none is known; and the name of the axis's time zone, None for UTC: that of --zone, else of the notes."""
+
+    def __init__(self, words: argparse.Namespace) -> None:
+        self.words = words
+        self.panels = panels_of(words)
+        self.all = [one for panel in self.panels for one in panel]
+        notes = [one.notes for one in self.all if one.notes is not None]
+        if len({(one.clock.tick, one.clock.origin) for one in notes}) > 1:
+            raise Refused("these files have other ticks or origins: they have no common axis")
+        self.clock: Clock | None = notes[0].clock if notes else None
+        self.zone: str | None = words.zone or (notes[0].zone if notes else None)
+        lo, hi = (None if text is None else tick_of(text, self.clock, words.zone) for text in (words.begin, words.end))
+        self.given = lo, hi
+
+    def copy_pipes(self, folder: str) -> None:
+        """Copies standard input and other pipes to the folder: a file can be read more than once."""
+        copies: dict[str, str] = {}
+        for one in self.all:
+            if one.file not in copies:
+                place = os.path.join(folder, str(len(copies)))
+                os.mkdir(place)
+                copies[one.file] = spooled(one.file, place)
+            one.copy = copies[one.file]
+
+    def stretch(self, extent: tuple[int, int] | None) -> tuple[int, int]:
+        """The stretch of ticks that is drawn: what is given, else the extent of all rows."""
+        lo, hi = self.given
+        lo = (extent[0] if extent is not None else 0) if lo is None else lo
+        hi = (extent[1] if extent is not None else lo + 1) if hi is None else hi
+        if lo >= hi:
+            raise Refused("there is nothing between --from and --to")
+        return lo, hi
+
+
 def panels_of(words: argparse.Namespace) -> list[list[Drawn]]:
     like = None if words.like is None else notes_of(words.like)
     units, scales = units_of(words.unit), scales_of(words.scale)
@@ -63,12 +99,15 @@ def panels_of(words: argparse.Namespace) -> list[list[Drawn]]:
         # What isn't the series itself has its clock alone, and holds.
         form = found[2] or ("dots" if own is not None and own.kind == "event" else "step")
         sha256 = None if own is None else own.sha256
-        drawn = Drawn(printable(found[3]), found[4], form, notes, scale, units.get(found[3], ""), sha256)
-        if found[1]:
-            panels[-1].append(drawn)
-        else:
-            panels.append([drawn])
-    check_names(panels, {"--scale": scales, "--unit": units})
+        if not found[1]:
+            panels.append([])
+        panels[-1].append(Drawn(printable(found[3]), found[4], form, notes, scale, units.get(found[3], ""), sha256))
+    # An option for a name that isn't drawn would change nothing.
+    names = {one.name for panel in panels for one in panel}
+    for option, given in (("--scale", list(scales)), ("--unit", list(units))):
+        for name in given:
+            if name and name not in names:
+                raise Refused(f"{option} {name}=..: nothing that is drawn has this name; there are: {', '.join(sorted(names))}")
     return panels
 
 
@@ -90,15 +129,6 @@ def scales_of(words: list[str]) -> dict[str, int]:
     return scales
 
 
-def check_names(panels: list[list[Drawn]], given: Mapping[str, Iterable[str]]) -> None:
-    """Rejects options for a name that isn't drawn: they would change nothing."""
-    names = {one.name for panel in panels for one in panel}
-    for option, named in given.items():
-        for name in named:
-            if name and name not in names:
-                raise Refused(f"{option} {name}=..: nothing that is drawn has this name; there are: {', '.join(sorted(names))}")
-
-
 def printable(text: str) -> str:
     """A text that a picture can have."""
     if UNPRINTABLE.search(text):
@@ -106,53 +136,9 @@ def printable(text: str) -> str:
     return text
 
 
-def copy_pipes(panels: list[list[Drawn]], folder: str) -> None:
-    """Copies standard input and other pipes to the folder: a file can be read more than once."""
-    copies: dict[str, str] = {}
-    for one in (one for panel in panels for one in panel):
-        if one.file not in copies:
-            place = os.path.join(folder, str(len(copies)))
-            os.mkdir(place)
-            copies[one.file] = spooled(one.file, place)
-        one.copy = copies[one.file]
-
-
-def clock_of(panels: list[list[Drawn]]) -> Clock | None:
-    """The one clock of all files, or None where none is known."""
-    clocks = [one.notes.clock for panel in panels for one in panel if one.notes is not None]
-    if len({(clock.tick, clock.origin) for clock in clocks}) > 1:
-        raise Refused("these files have other ticks or origins: they have no common axis")
-    return clocks[0] if clocks else None
-
-
-def zone_name_of(words: argparse.Namespace, panels: list[list[Drawn]]) -> str | None:
-    """The name of the axis's time zone, or None for UTC: that of --zone, else of the notes."""
-    notes = next((one.notes for panel in panels for one in panel if one.notes is not None), None)
-    return words.zone or (notes.zone if notes is not None else None)
-
-
-def numbers_of(panels: list[list[Drawn]]) -> dict[str, int]:
+def numbers_of(drawn: Iterable[Drawn]) -> dict[str, int]:
     """A number for each name that is drawn as a line or as dots, from 0: a name has one style in all panels."""
-    numbers: dict[str, int] = {}
-    for one in (one for panel in panels for one in panel if one.form in ("step", "dots")):
-        numbers.setdefault(one.name, len(numbers))
-    return numbers
-
-
-def stretch_given(words: argparse.Namespace, clock: Clock | None) -> tuple[int | None, int | None]:
-    """The ticks of --from and --to; None for one that isn't given."""
-    lo, hi = (None if text is None else tick_of(text, clock, words.zone) for text in (words.begin, words.end))
-    return lo, hi
-
-
-def stretch_of(given: tuple[int | None, int | None], extent: tuple[int, int] | None) -> tuple[int, int]:
-    """The stretch of ticks that is drawn: what is given, else the extent of all rows."""
-    lo, hi = given
-    lo = (extent[0] if extent is not None else 0) if lo is None else lo
-    hi = (extent[1] if extent is not None else lo + 1) if hi is None else hi
-    if lo >= hi:
-        raise Refused("there is nothing between --from and --to")
-    return lo, hi
+    return {name: number for number, name in enumerate(dict.fromkeys(one.name for one in drawn if one.form in ("step", "dots")))}
 
 
 def widened(extent: tuple[int, int] | None, start: int, end: int) -> tuple[int, int]:
@@ -190,12 +176,11 @@ def clipped(rows: Iterable[Row], lo: int, hi: int) -> Iterator[tuple[int, int, i
 
 def thinned(rows: Iterable[tuple[int, int, int]], lo: int, hi: int, pixels: int) -> Iterator[tuple[int, int, int]]:
     """The rows, where some lie within one pixel only the first, the least, the greatest and the last of them."""
-    span = hi - lo
     held: list[tuple[int, int, int]] = []
     column = None
     for row in rows:
-        its = (row[0] - lo) * pixels // span
-        if its != column or (row[1] - 1 - lo) * pixels // span != its:
+        its = (row[0] - lo) * pixels // (hi - lo)
+        if its != column or (row[1] - 1 - lo) * pixels // (hi - lo) != its:
             yield from outline(held)
             held, column = [], its
         held.append(row)
@@ -222,9 +207,9 @@ def joined(stretches: Iterable[tuple[int, int]], near: float) -> Iterator[tuple[
     for start, end in stretches:
         if held is not None and start - held[1] <= near:
             held = held[0], end
-        else:
-            if held is not None:
-                yield held
-            held = start, end
+            continue
+        if held is not None:
+            yield held
+        held = start, end
     if held is not None:
         yield held

@@ -12,8 +12,7 @@ from . import frames
 from .axis import axis_of
 from .clock import zone_of
 from .convention import Convention
-from .drawn import Drawn, add_drawn, clipped, bands_of, clock_of, copy_pipes, numbers_of, panels_of, printable
-from .drawn import stretch_given, stretch_of, thinned, widened, zone_name_of
+from .drawn import Drawn, Picture, add_drawn, bands_of, clipped, numbers_of, printable, thinned, widened
 from .errors import Refused
 from .files import Outputs, failing_at, scratch, taking
 from .progress import shown
@@ -87,38 +86,31 @@ def bands(rows: Iterable[tuple[int, int, int]], lo: int, hi: int, columns: int) 
         yield begin, max(float(end - lo), begin + column)
 
 
-def stretches(rows: Iterable[tuple[int, int, int]], near: float) -> Iterator[list[tuple[int, int, int]]]:
-    """The rows, parted at each gap of more than so many ticks."""
-    held: list[tuple[int, int, int]] = []
-    for row in rows:
-        if held and row[0] - held[-1][1] > near:
-            yield held
-            held = []
-        held.append(row)
-    if held:
-        yield held
-
-
 def steps(rows: Iterable[tuple[int, int, int]], scale: int, lo: int = 0, column: float = 0.0) -> tuple[list[float], list[float]]:
     """The corners of the steps, in ticks after `lo`, with a break at each gap that is wider than a column of pixels. What `thinned` left
     out is narrower, so that it breaks no line. A stretch that is narrower than a column is drawn as wide as one."""
     times: list[float] = []
     values: list[float] = []
-    for stretch in stretches(rows, column):
-        if times:
-            times.append(times[-1])
-            values.append(float("nan"))
-        for start, end, value in stretch:
-            times += [float(start - lo), float(end - lo)]
-            values += [value / scale] * 2
-        times[-1] = max(times[-1], stretch[0][0] - lo + column)
+    first, last = 0, None
+    for start, end, value in rows:
+        if last is None or start - last > column:
+            if last is not None:
+                times[-1] = max(times[-1], first - lo + column)
+                times.append(times[-1])
+                values.append(float("nan"))
+            first = start
+        times += [float(start - lo), float(end - lo)]
+        values += [value / scale] * 2
+        last = end
+    if times:
+        times[-1] = max(times[-1], first - lo + column)
     return times, values
 
 
-def extent_of(panels: list[list[Drawn]]) -> tuple[int, int] | None:
+def extent_of(files: Iterable[Drawn]) -> tuple[int, int] | None:
     """From the first start to the last end in all files; None if there is no row."""
     extent = None
-    for one in {one.file: one for panel in panels for one in panel}.values():
+    for one in {one.file: one for one in files}.values():
         for start, end, _ in one.rows():
             extent = widened(extent, start, end)
     return extent
@@ -150,31 +142,21 @@ def look_of(number: int) -> tuple[str, Any, str]:
 
 
 def draw_legend(axes: Any, entries: list[tuple[Any, str]]) -> None:
-    legend = axes.legend(
-        [drawn for drawn, _ in entries],
-        [""] * len(entries),
-        loc="lower left",
-        bbox_to_anchor=(0, 1),
-        ncol=5,
-        frameon=False,
-        borderaxespad=0.1,
-        handlelength=1.6,
-    )
+    place: dict[str, Any] = {"loc": "lower left", "bbox_to_anchor": (0, 1), "borderaxespad": 0.1}
+    legend = axes.legend([drawn for drawn, _ in entries], [""] * len(entries), ncol=5, frameon=False, handlelength=1.6, **place)
     # A label that starts with `_` would have no entry.
     for text, (_, name) in zip(legend.get_texts(), entries):
         text.set_text(escaped(name))
 
 
-def draw(words: argparse.Namespace, panels: list[list[Drawn]]) -> Any:
+def draw(picture: Picture) -> Any:
     """The figure; matplotlib is there."""
     # `pyplot` would keep the figure, and has a backend that is the caller's.
     from matplotlib.figure import Figure
 
-    clock = clock_of(panels)
-    given = stretch_given(words, clock)
-    lo, hi = stretch_of(given, extent_of(panels) if None in given else None)
-    name = zone_name_of(words, panels)
-    numbers, size = numbers_of(panels), Size.of(words.size, words.dpi, len(panels))
+    words, panels = picture.words, picture.panels
+    lo, hi = picture.stretch(extent_of(picture.all) if None in picture.given else None)
+    numbers, size = numbers_of(picture.all), Size.of(words.size, words.dpi, len(panels))
     figure = Figure(figsize=(size.width, size.height), dpi=size.dpi)
     rows = figure.subplots(len(panels), 1, sharex=True, squeeze=False)
     for axes, panel in zip(rows[:, 0], panels):
@@ -185,7 +167,7 @@ def draw(words: argparse.Namespace, panels: list[list[Drawn]]) -> Any:
         if entries:
             draw_legend(axes, entries)
         axes.spines[["top", "right"]].set_visible(False)
-    marks, texts, label = axis_of(clock, lo, hi, zone_of(name), name or "UTC")
+    marks, texts, label = axis_of(picture.clock, lo, hi, zone_of(picture.zone), picture.zone or "UTC")
     last = rows[-1, 0]
     last.set_xlim(0, hi - lo)
     last.set_xticks(marks, texts)
@@ -212,10 +194,10 @@ def main(words: argparse.Namespace) -> int:
         matplotlib = importlib.import_module("matplotlib")
     except ImportError as error:
         raise Refused("matplotlib isn't there: apt-get install python3-matplotlib, or pip install matplotlib") from error
-    panels = panels_of(words)
+    picture = Picture(words)
     with scratch() as folder, matplotlib.rc_context({"svg.fonttype": "none", "svg.hashsalt": "tilt-data", "font.size": 9}):
-        copy_pipes(panels, folder)
-        figure = draw(words, panels)
+        picture.copy_pipes(folder)
+        figure = draw(picture)
         with failing_at(words.out), taking(words.out) as new:
             figure.savefig(new, format=form, metadata=metadata_of(form, matplotlib.__version__))
     return 0

@@ -296,8 +296,8 @@ def scales_of(words: argparse.Namespace, path: str, convention: TextConvention) 
     given = dict(convention.scale) if isinstance(convention.scale, Mapping) else {}
     digits = digits_of(path, words, convention) if "auto" in given.values() else {}
     most = max((count for name, count in digits.items() if name not in given), default=0)
-    found = {name: 10 ** (digits.get(name, 0) if name else most) for name in given}
-    return {name: Scale(int(convention.scale_of(name) or found.get(name, 1))) for name in ["", *given]}
+    found = {name: 10 ** (digits.get(name, 0) if name else most) for name in ["", *given]}
+    return {name: Scale(convention.scale_of(name) or found[name]) for name in found}
 
 
 def digits_of(path: str, words: argparse.Namespace, convention: TextConvention) -> dict[str, int]:

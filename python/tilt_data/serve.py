@@ -8,7 +8,7 @@ import threading
 from typing import Any
 
 from .arrivals import Arrivals, read_arrivals
-from .drawn import Drawn, add_drawn, clock_of, panels_of, stretch_given, stretch_of, zone_name_of
+from .drawn import Picture, add_drawn
 from .errors import Refused, note
 from .view.coding import Summary, fields_of
 from .view.command import POLICY, SCRIPTS, Written, extent_of, fields_element, fields_of_clock, fields_of_page
@@ -47,11 +47,13 @@ def main(words: argparse.Namespace) -> int:
         raise Refused("--keep: 1 or more was expected")
     if not 0 <= words.port < 1 << 16:
         raise Refused("--port: a number from 0 to 65535 was expected")
-    panels = panels_of(words)
-    live = list(dict.fromkeys(one.file for panel in panels for one in panel if is_live(one.file)))
+    picture = Picture(words)
+    # Rows arrive in standard input and in pipes.
+    files = dict.fromkeys(one.file for one in picture.all)
+    live = [file for file in files if file == "-" or os.path.exists(file) and not os.path.isfile(file)]
     if not live:
         raise Refused("no rows arrive: - or a named pipe was expected as one FILE (`view` shows files alone)")
-    page = page_of(words, panels, live)
+    page = page_of(picture, live)
     arrivals = Arrivals(len(live), words.keep)
     # This module takes longer to import than most commands to start.
     from .server import Server
@@ -73,30 +75,22 @@ def main(words: argparse.Namespace) -> int:
     return 0
 
 
-def is_live(file: str) -> bool:
-    """Whether rows arrive in a file: it is standard input or a pipe."""
-    return file == "-" or os.path.exists(file) and not os.path.isfile(file)
-
-
-def page_of(words: argparse.Namespace, panels: list[list[Drawn]], live: list[str]) -> str:
+def page_of(picture: Picture, live: list[str]) -> str:
     """The text of the page. Files in which rows arrive are empty in it, and its first series, in order; the others are read now."""
-    clock = clock_of(panels)
-    given, gap = stretch_given(words, clock), gap_of(words.gap, clock)
+    words, clock, title = picture.words, picture.clock, title_of(picture)
+    gap, start = gap_of(words.gap, clock), picture.given[0]
     empty = fields_of([], Summary(), [])
-    written = {file: Written({**empty, "live": {"band": is_band(file, panels)}}, None) for file in live}
-    before, after = frame_of(title_of(words, panels), LIVE_POLICY, LIVE_SCRIPTS)
+    written = {file: Written({**empty, "live": {"band": is_band(file, picture)}}, None) for file in live}
+    before, after = frame_of(title, LIVE_POLICY, LIVE_SCRIPTS)
     text = io.StringIO()
-    text.write(before)
-    write_files(text, panels, given, gap, written)
+    write_files(text, picture, gap, written)
     extent = extent_of(written)
-    if extent is not None and given[0] is not None and extent[1] <= given[0]:
+    if extent is not None and start is not None and extent[1] <= start:
         extent = None
-    stretch = stretch_of(given, extent)
-    fields: dict[str, Any] = {"title": title_of(words, panels), **fields_of_page(words, panels, clock, stretch, written)}
-    fields["live"] = {"keep": words.keep, "gap": str(gap), "known": extent is not None, "fixed": given[0] is not None}
+    stretch = picture.stretch(extent)
+    fields: dict[str, Any] = {"title": title, **fields_of_page(picture, stretch, written)}
+    fields["live"] = {"keep": words.keep, "gap": str(gap), "known": extent is not None, "fixed": start is not None}
     if clock is not None:
         years = min(stretch[0], clock.start(YEARS[0])), max(stretch[1], clock.start(YEARS[1]))
-        fields["clock"] = fields_of_clock(clock, years, zone_name_of(words, panels))
-    text.write(fields_element(fields))
-    text.write(after)
-    return text.getvalue()
+        fields["clock"] = fields_of_clock(clock, years, picture.zone)
+    return before + text.getvalue() + fields_element(fields) + after

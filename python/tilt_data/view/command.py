@@ -6,12 +6,11 @@ import dataclasses
 import html
 import importlib.resources
 import json
-from typing import IO, Any, Iterable, Iterator
+from typing import IO, Any, Iterator
 
 from ..axis import STEPS, changes
 from ..clock import TIMES, Clock, duration_of, zone_of
-from ..drawn import Drawn, add_drawn, bands_of, clock_of, copy_pipes, met, numbers_of, panels_of, printable
-from ..drawn import stretch_given, stretch_of, widened, zone_name_of
+from ..drawn import Drawn, Picture, add_drawn, bands_of, met, numbers_of, printable, widened
 from ..errors import Refused
 from ..files import Row, scratch, writing
 from ..progress import shown
@@ -36,23 +35,6 @@ class Written:
     extent: tuple[int, int] | None
 
 
-class Passing:
-    """Rows, with the extent of those that have passed."""
-
-    def __init__(self, rows: Iterable[Row]) -> None:
-        self.rows = rows
-        self.extent: tuple[int, int] | None = None
-
-    def __iter__(self) -> Iterator[Row]:
-        row = None
-        for row in self.rows:
-            if self.extent is None:
-                self.extent = row[0], row[1]
-            yield row
-        if row is not None and self.extent is not None:
-            self.extent = widened(self.extent, row[0], row[1])
-
-
 def add(commands: Any) -> None:
     parser = commands.add_parser("view", help="a page to look around in: zoom, episodes, exact values", description=HELP)
     add_drawn(parser)
@@ -64,36 +46,30 @@ def add(commands: Any) -> None:
 def main(words: argparse.Namespace) -> int:
     if not words.out.lower().endswith((".html", ".htm")):
         raise Refused(f"{words.out}: a name that ends in .html was expected")
-    panels = panels_of(words)
-    title = title_of(words, panels)
+    picture = Picture(words)
+    title = title_of(picture)
     with scratch() as folder:
-        copy_pipes(panels, folder)
+        picture.copy_pipes(folder)
         with writing(words.out) as file:
-            write_page(file, words, panels, title)
+            # The texts of each file are written as they are read, and then what they mean, and the scripts.
+            before, after = frame_of(title, POLICY, SCRIPTS)
+            file.write(before)
+            written: dict[str, Written] = {}
+            write_files(file, picture, gap_of(words.gap, picture.clock), written)
+            stretch = picture.stretch(extent_of(written))
+            file.write(fields_element({"title": title, **fields_of_page(picture, stretch, written)}))
+            file.write(after)
     return 0
 
 
-def title_of(words: argparse.Namespace, panels: list[list[Drawn]]) -> str:
+def title_of(picture: Picture) -> str:
     """The title that is given, or the names of lines and dots, or of all if there are none."""
-    names = list(numbers_of(panels)) or [one.name for panel in panels for one in panel]
-    return printable(words.title or ", ".join(dict.fromkeys(names)))
+    names = list(numbers_of(picture.all)) or [one.name for one in picture.all]
+    return printable(picture.words.title or ", ".join(dict.fromkeys(names)))
 
 
 def asset(name: str) -> str:
     return importlib.resources.files(__package__).joinpath(name).read_text(encoding="utf-8")
-
-
-def write_page(file: IO[str], words: argparse.Namespace, panels: list[list[Drawn]], title: str) -> None:
-    """Writes the page: its head, the texts of each file as they are read, and then what they mean, and the scripts."""
-    clock = clock_of(panels)
-    given = stretch_given(words, clock)
-    before, after = frame_of(title, POLICY, SCRIPTS)
-    file.write(before)
-    written: dict[str, Written] = {}
-    write_files(file, panels, given, gap_of(words.gap, clock), written)
-    fields = fields_of_page(words, panels, clock, stretch_of(given, extent_of(written)), written)
-    file.write(fields_element({"title": title, **fields}))
-    file.write(after)
 
 
 def frame_of(title: str, policy: str, scripts: list[str]) -> tuple[str, str]:
@@ -103,18 +79,16 @@ def frame_of(title: str, policy: str, scripts: list[str]) -> tuple[str, str]:
     return before.replace("{title}", html.escape(title)), after.replace("{script}", "\n".join(map(asset, scripts)))
 
 
-def write_files(
-    file: IO[str], panels: list[list[Drawn]], given: tuple[int | None, int | None], gap: int, written: dict[str, Written]
-) -> None:
+def write_files(file: IO[str], picture: Picture, gap: int, written: dict[str, Written]) -> None:
     """Writes the rows of each file that isn't among those that are written, and adds it to them."""
-    for one in (one for panel in panels for one in panel):
+    for one in picture.all:
         if one.file not in written:
-            written[one.file] = write_rows(file, one, len(written), given, gap if is_band(one.file, panels) else None)
+            written[one.file] = write_rows(file, one, len(written), picture, gap if is_band(one.file, picture) else None)
 
 
-def is_band(file: str, panels: list[list[Drawn]]) -> bool:
+def is_band(file: str, picture: Picture) -> bool:
     """Whether a file is drawn as a band."""
-    return any(one.form == "band" and one.file == file for panel in panels for one in panel)
+    return any(one.form == "band" and one.file == file for one in picture.all)
 
 
 def extent_of(written: dict[str, Written]) -> tuple[int, int] | None:
@@ -135,13 +109,23 @@ def element(name: str, text: str, kind: str = "text/plain") -> str:
     return f'<script type="{kind}" id="{name}">{text}</script>\n'
 
 
-def write_rows(file: IO[str], one: Drawn, number: int, given: tuple[int | None, int | None], gap: int | None) -> Written:
+def write_rows(file: IO[str], one: Drawn, number: int, picture: Picture, gap: int | None) -> Written:
     """Writes the rows of a file that meet the stretch, in blocks, and their summary. Its episodes are needed if there is a gap."""
-    rows = Passing(shown(one.rows(), "rows"))
-    summary, episodes = Summary(), list[tuple[int, int]]()
+    summary, episodes, extents = Summary(), list[tuple[int, int]](), list[tuple[int, int]]()
+
+    def rows() -> Iterator[Row]:
+        """All rows. The last extent is that of those that have passed, or of the first one if the stretch ends before the last one."""
+        row = None
+        for row in shown(one.rows(), "rows"):
+            if not extents:
+                extents.append(row[:2])
+            yield row
+        if row is not None:
+            extents.append((extents[0][0], row[1]))
+
     blocks: list[tuple[int, int, int]] = []
-    lo, hi = (limit if tick is None else tick for tick, limit in zip(given, (-TIMES - 1, TIMES + 1)))
-    for block in blocks_of(met(rows, lo, hi)):
+    lo, hi = (limit if tick is None else tick for tick, limit in zip(picture.given, (-TIMES - 1, TIMES + 1)))
+    for block in blocks_of(met(rows(), lo, hi)):
         file.write(element(f"rows-{number}-{len(blocks)}", block.text()))
         blocks.append((len(block.starts), block.starts[0], block.values[0]))
         summary.take(block)
@@ -151,7 +135,7 @@ def write_rows(file: IO[str], one: Drawn, number: int, given: tuple[int | None, 
         file.write(element(f"summary-{number}", summary.text()))
     if episodes:
         file.write(element(f"episodes-{number}", packed(times_of(*zip(*episodes)))))
-    return Written(fields_of(blocks, summary, episodes), rows.extent)
+    return Written(fields_of(blocks, summary, episodes), extents[-1] if extents else None)
 
 
 def gap_of(text: str | None, clock: Clock | None) -> int:
@@ -171,34 +155,24 @@ def add_episodes(episodes: list[tuple[int, int]], block: Block, gap: int) -> Non
         episodes.append((start, end))
 
 
-def fields_of_page(
-    words: argparse.Namespace, panels: list[list[Drawn]], clock: Clock | None, stretch: tuple[int, int], written: dict[str, Written]
-) -> dict[str, Any]:
+def fields_of_page(picture: Picture, stretch: tuple[int, int], written: dict[str, Written]) -> dict[str, Any]:
     """What the page has to know of its texts. Numbers that JavaScript doesn't read exactly are texts."""
-    numbers, places = numbers_of(panels), {name: at for at, name in enumerate(written)}
-    zone = zone_name_of(words, panels)
-    bands = list(dict.fromkeys(one.name for panel in panels for one in panel if one.form == "band"))
+    numbers, places = numbers_of(picture.all), {name: at for at, name in enumerate(written)}
+    bands = list(dict.fromkeys(one.name for one in picture.all if one.form == "band"))
+
+    def fields_of_one(one: Drawn) -> dict[str, Any]:
+        number = bands.index(one.name) if one.form == "band" else numbers.get(one.name, 0)
+        fields: dict[str, Any] = {"name": one.name, "form": one.form, "unit": one.unit, "scale": str(one.scale)}
+        return {**fields, "number": number, "series": places[one.file]}
+
     return {
         "version": VERSION,
         "lo": str(stretch[0]),
         "hi": str(stretch[1]),
-        "clock": None if clock is None else fields_of_clock(clock, stretch, zone),
+        "clock": None if picture.clock is None else fields_of_clock(picture.clock, stretch, picture.zone),
         "steps": list(map(str, STEPS)),
         "series": [part.fields for part in written.values()],
-        "panels": [
-            [
-                {
-                    "name": one.name,
-                    "form": one.form,
-                    "unit": one.unit,
-                    "scale": str(one.scale),
-                    "number": bands.index(one.name) if one.form == "band" else numbers.get(one.name, 0),
-                    "series": places[one.file],
-                }
-                for one in panel
-            ]
-            for panel in panels
-        ],
+        "panels": [list(map(fields_of_one, panel)) for panel in picture.panels],
     }
 
 
