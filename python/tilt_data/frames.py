@@ -65,7 +65,8 @@ class Query:
 
     def __init__(self, query: str | os.PathLike[str]) -> None:
         text = os.fspath(query)
-        if isinstance(query, os.PathLike) or names_file(text):
+        # A query has a `;` at its end, and so is no name of a file.
+        if isinstance(query, os.PathLike) or not re.search(r"[;\s]", text) or text.endswith(".tilt") or os.path.isfile(text):
             # The program rejects a byte order mark, and sees it here too.
             with reading(text, encoding="utf-8") as file:
                 self.text, self.name = file.read(), text
@@ -99,7 +100,9 @@ class Query:
         by, named = given.pop("by", None), dict(given.pop("inputs", None) or {})
         look = Look(**{field.name: given.pop(field.name) for field in dataclasses.fields(Look) if field.name in given})
         convention = convention_of(given.pop("convention", None), given, ARGUMENTS)
-        check_key_origin(look.key_origin, by, convention)
+        if look.key_origin == "own" and (by is None or convention.origin is not None):
+            what = "there are no keys without by=" if by is None else f"origin={convention.origin!r} is that of all keys"
+            raise Refused(f"key_origin='own': {what}")
         if by is not None:
             return self.by_key(data, by, look, convention, named)
         named = {**frame_inputs(data, self.inputs), **named}
@@ -120,7 +123,9 @@ class Query:
         if taken.over is None:
             return None
         if over == "data":
-            return taken.over.moved(self.text, *taken.over.around(*needed_edges(taken.all_extents(), "over='data': ")))
+            files = [extent_of(file) for name, file in taken.files.items() if name not in taken.extents]
+            edges = needed_edges([*taken.extents.values(), *files], "over='data': ")
+            return taken.over.moved(self.text, *taken.over.around(*edges))
         if over is None:
             warn(cut_note(taken.over, taken.extents))
         return None
@@ -307,28 +312,11 @@ def needed_edges(extents: list[Extent], option: str = "") -> tuple[int, int]:
 
 def warn(text: str | None) -> None:
     """A warning at the line that called this package."""
-    if text is not None:
-        warnings.warn(text, stacklevel=level_of_caller())
-
-
-def level_of_caller() -> int:
-    """Which of the callers of a method that warns, counted from itself as 1, is the first outside of this package."""
-    level, frame = 1, sys._getframe(1)
+    level, frame = 1, sys._getframe()
     while frame.f_back is not None and frame.f_globals["__name__"].startswith("tilt_data."):
         level, frame = level + 1, frame.f_back
-    return level
-
-
-def names_file(text: str) -> bool:
-    """Whether a text is the name of a file rather than a query, which has a `;` at its end."""
-    return not re.search(r"[;\s]", text) or text.endswith(".tilt") or os.path.isfile(text)
-
-
-def check_key_origin(key_origin: str, by: Any, convention: Convention) -> None:
-    """Rejects an origin of each key if there are no keys, or if there is an origin for all."""
-    if key_origin == "own" and (by is None or convention.origin is not None):
-        what = "there are no keys without by=" if by is None else f"origin={convention.origin!r} is that of all keys"
-        raise Refused(f"key_origin='own': {what}")
+    if text is not None:
+        warnings.warn(text, stacklevel=level)
 
 
 @dataclasses.dataclass(frozen=True)
@@ -516,11 +504,6 @@ class Inputs:
 
         self.files[name] = sessions.put_rows(self.folder, name, texts())
 
-    def all_extents(self) -> list[Extent]:
-        """How far the rows of all inputs reach: those of files are read for it."""
-        read = [extent_of(self.files[name]) for name in self.files.keys() - self.extents.keys()]
-        return [*self.extents.values(), *read]
-
 
 def extent_of(file: str) -> Extent:
     """How far the rows of a file reach."""
@@ -543,9 +526,8 @@ def parted(named: Mapping[str, Any]) -> tuple[dict[str, str], dict[str, Any]]:
 
 
 def zone_in(index: Any) -> Any:
-    import pandas
-
-    return index.left.tz if isinstance(index, pandas.IntervalIndex) else getattr(index, "tz", None)
+    """The zone of times or of intervals."""
+    return getattr(getattr(index, "left", index), "tz", None)
 
 
 def shape_of(files: dict[str, str], series: dict[str, Any], convention: Convention) -> tuple[Clock, int]:
@@ -553,13 +535,11 @@ def shape_of(files: dict[str, str], series: dict[str, Any], convention: Conventi
     found = {name: notes_of(file) for name, file in files.items()}
     known = {name: notes for name, notes in found.items() if notes is not None}
     closed = closed_of(known, series, convention)
-    clock = Clock(duration_of(convention.tick or "1s"), 0, closed)
     if known:
         clock = dataclasses.replace(shared_clock(known, convention), closed=closed)
-    elif convention.origin is not None:
-        clock = dataclasses.replace(clock, origin=moment_read("origin", convention.origin))
     else:
-        clock = dataclasses.replace(clock, origin=first_midnight(series))
+        origin = first_midnight(series) if convention.origin is None else moment_read("origin", convention.origin)
+        clock = Clock(duration_of(convention.tick or "1s"), origin, closed)
     return clock, scale_of(known, series, convention)
 
 
@@ -611,7 +591,7 @@ def closed_in(name: str, index: Any) -> str | None:
 
 def first_midnight(series: dict[str, Any]) -> int:
     """The midnight before the first reading, in the zone of the first Series. A day that has no midnight starts at its first moment."""
-    starts = [int(starts_of(name, one.index).min()) for name, one in series.items() if len(one)]
+    starts = [int(moments_of(getattr(one.index, "left", one.index), f"the input {name}").min()) for name, one in series.items() if len(one)]
     return midnight(min(starts), next(zone_in(one.index) for one in series.values())) if starts else 0
 
 
@@ -649,13 +629,6 @@ def scale_of(known: dict[str, Notes], series: dict[str, Any], convention: Conven
         what = "output_scale=N" if convention.output_scale is None else "scale=N for the Series"
         raise Refused(f"scales='differ': {what} is needed; {told}")
     return given or next(iter(scales.values()))
-
-
-def starts_of(name: str, index: Any) -> Any:
-    """The moments of readings, or those at which intervals start, as an array of nanoseconds."""
-    import pandas
-
-    return moments_of(index.left if isinstance(index, pandas.IntervalIndex) else index, f"the input {name}")
 
 
 def arrays_of(name: str, series: Any, clock: Clock, convention: Convention, scale: int) -> Iterator[RowArrays]:
