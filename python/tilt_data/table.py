@@ -2,7 +2,6 @@
 from __future__ import annotations
 
 import argparse
-import contextlib
 import csv
 import dataclasses
 import datetime
@@ -15,7 +14,7 @@ from typing import IO, Any, Iterable, Iterator
 from .clock import Clock, duration_of, zone_of
 from .drawn import joined
 from .errors import Refused, refused_at
-from .files import HEADER, Notes, Row, notes_of, notes_path, reading, records, row_of, rows_of, safe, same_file, writing
+from .files import HEADER, Row, notes_of, notes_path, reading, records, row_of, rows_in, safe, same_file, writing
 from .progress import shown
 from .scales import decimal_text
 
@@ -45,6 +44,11 @@ class Look:
     def value(self, value: int | None) -> str:
         return "" if value is None else decimal_text(value, self.scale)
 
+    def check(self, others: Iterable[Look], what: str) -> None:
+        """Rejects files on another clock."""
+        if any((other.clock.tick, other.clock.origin) != (self.clock.tick, self.clock.origin) for other in others):
+            raise Refused(what)
+
 
 def add(commands: Any) -> None:
     parser = commands.add_parser("table", help="outputs back to dates and decimals", description=HELP)
@@ -55,14 +59,8 @@ def add(commands: Any) -> None:
     parser.add_argument("--merge", action="store_true", help="join equal neighbours")
     parser.add_argument("--episodes", action="store_true", help="a row for each stretch of rows that follow one another")
     parser.add_argument("--gap", metavar="DURATION", help="with --episodes: stretches no farther apart are one")
-    parser.add_argument(
-        "--of",
-        nargs="+",
-        action="extend",
-        metavar="NAME=FILE",
-        default=[],
-        help="with --episodes: the smallest, the largest " "and the mean value (weighted by time) of these in each episode",
-    )
+    of = "with --episodes: the smallest, the largest and the mean value (weighted by time) of these in each episode"
+    parser.add_argument("--of", nargs="+", action="extend", metavar="NAME=FILE", default=[], help=of)
     parser.add_argument("--wide", action="store_true", help="several files side by side, cut where one of them changes")
     parser.add_argument("-o", "--out", metavar="FILE", help="the file of the table (standard output)")
     parser.set_defaults(main=main)
@@ -84,17 +82,15 @@ class Looks:
         self.like = None if words.like is None else notes_of(words.like)
         if words.like is not None:
             self.keep(words.like)
-        if words.like is not None and self.like is None:
-            raise Refused(f"{words.like}: there is no JSON file beside it; `tilt-data series` writes one")
+            if self.like is None:
+                raise Refused(f"{words.like}: there is no JSON file beside it; `tilt-data series` writes one")
         self.zone = words.zone
         self.scales = dict(word.rpartition("=")[::2] for word in words.scale)
         for text in self.scales.values():
             if not SCALE.fullmatch(text) or int(text) == 0:
                 raise Refused(f"--scale {text[:40]}: a whole number above 0, of at most 30 digits, was expected")
-
-    def check_names(self, words: list[str]) -> None:
-        """Refuses a scale of a name that no file has: it would have changed nothing."""
-        names = [named(word)[0] for word in words]
+        # A scale of a name that no file has would change nothing.
+        names = [named(word)[0] for word in [*words.files, *words.of]]
         for name in self.scales:
             if name and name not in names:
                 raise Refused(f"--scale {name}=..: no file has this name; there are: {', '.join(names)}")
@@ -108,7 +104,7 @@ class Looks:
     def of(self, name: str, file: str) -> Look:
         self.keep(file)
         own = notes_of(file)
-        notes: Notes | None = own or self.like
+        notes = own or self.like
         if notes is None:
             raise Refused(f"{file}: its ticks and scale aren't known: no JSON file is beside it; --like SERIES names a series that has one")
         scale = int(self.scales.get(name, self.scales.get("", notes.scale)))
@@ -129,24 +125,15 @@ def merged(rows: Iterable[Row]) -> Iterator[Row]:
         yield held
 
 
-def put(out: IO[str], fields: Iterable[Iterable[str]]) -> None:
-    csv.writer(out, lineterminator="\n").writerows(fields)
-
-
 def main(words: argparse.Namespace) -> int:
     if words.of and not words.episodes or words.gap and not words.episodes:
         raise Refused("--of and --gap go with --episodes")
     if len(words.files) > 1 and not words.wide:
         raise Refused("several files were named: --wide prints them side by side")
     looks = Looks(words)
-    looks.check_names([*words.files, *words.of])
     with writing(words.out) as out:
-        if words.wide:
-            put(out, wide([named(word) for word in words.files], looks, words.merge))
-        elif words.episodes:
-            put(out, episodes(words, looks))
-        else:
-            put(out, plain(words, looks))
+        table = csv.writer(out, lineterminator="\n")
+        table.writerows((wide if words.wide else episodes if words.episodes else plain)(words, looks))
     return 0
 
 
@@ -163,30 +150,24 @@ def plain(words: argparse.Namespace, looks: Looks) -> Iterator[list[str]]:
 
 
 def keyed_rows(file: str, opened: IO[str]) -> tuple[list[str], Iterator[tuple[list[str], Iterator[Row]]]]:
-    """The head of the key, where the file has one, and the rows of each key."""
+    """The head of the key, where the file has one, and the rows of each key that follow one another. Those of one key are in order."""
     found = records(file, opened)
     line, header = next(found, (1, [""]))
     if header not in (HEADER, ["key", *HEADER]):
         raise refused_at(file, line, "the header start,end,value or key,start,end,value was expected")
-    return header[:-3], by_key(file, shown(found, "rows"), len(header))
-
-
-def by_key(file: str, found: Iterable[tuple[int, list[str]]], width: int) -> Iterator[tuple[list[str], Iterator[Row]]]:
-    """The rows of each key that follow one another. Those of one key are in order."""
 
     def parsed() -> Iterator[tuple[list[str], Row]]:
         known: list[str] | None = None
         before: int | None = None
-        for line, record in found:
-            if len(record) != width:
-                raise refused_at(file, line, f"{width} fields were expected as in the header, not {len(record)}")
+        for line, record in shown(found, "rows"):
+            if len(record) != len(header):
+                raise refused_at(file, line, f"{len(header)} fields were expected as in the header, not {len(record)}")
             key = record[:-3]
             row = row_of(file, line, record[-3:], before if key == known else None)
             known, before = key, row[1]
             yield key, row
 
-    for key, group in itertools.groupby(parsed(), lambda one: one[0]):
-        yield key, (row for _, row in group)
+    return header[:-3], ((key, (row for _, row in group)) for key, group in itertools.groupby(parsed(), lambda one: one[0]))
 
 
 # Side by side
@@ -219,16 +200,15 @@ def pieces(cursors: list[Cursor]) -> Iterator[tuple[int, int, list[int | None]]]
         tick = following
 
 
-def wide(files: list[tuple[str, str]], looks: Looks, merge: bool) -> Iterator[list[str]]:
-    shapes = [looks.of(name, file) for name, file in files]
-    if len({(shape.clock.tick, shape.clock.origin) for shape in shapes}) > 1:
-        raise Refused("these files have other ticks or origins: they have no common pieces")
+def wide(words: argparse.Namespace, looks: Looks) -> Iterator[list[str]]:
+    files = [named(word) for word in words.files]
+    first, *others = shapes = [looks.of(name, file) for name, file in files]
+    first.check(others, "these files have other ticks or origins: they have no common pieces")
     yield ["start", "end", *(name for name, _ in files)]
-    with contextlib.ExitStack() as stack:
-        opened = [rows_of(file, stack.enter_context(reading(file, sha256=shape.sha256))) for (_, file), shape in zip(files, shapes)]
-        cursors = [Cursor(merged(rows) if merge else rows) for rows in opened]
-        for start, end, values in shown(pieces(cursors), "rows"):
-            yield [shapes[0].time(start), shapes[0].time(end), *(shape.value(value) for shape, value in zip(shapes, values))]
+    opened = [rows_in(file, sha256=shape.sha256) for (_, file), shape in zip(files, shapes)]
+    cursors = [Cursor(merged(rows) if words.merge else rows) for rows in opened]
+    for start, end, values in shown(pieces(cursors), "rows"):
+        yield [first.time(start), first.time(end), *(shape.value(value) for shape, value in zip(shapes, values))]
 
 
 # Episodes
@@ -305,14 +285,11 @@ def file_of(pattern: str, key: str) -> str:
 
 def episodes_of(rows: Iterator[Row], look: Look, others: list[tuple[str, str]], looks: Looks, gap: int) -> Iterator[list[str]]:
     shapes = [looks.of(*other) for other in others]
-    if any((shape.clock.tick, shape.clock.origin) != (look.clock.tick, look.clock.origin) for shape in shapes):
-        raise Refused("the files of --of have other ticks or origins than the episodes")
-    with contextlib.ExitStack() as stack:
-        opened = [stack.enter_context(reading(other, sha256=shape.sha256)) for (_, other), shape in zip(others, shapes)]
-        within = [Within(rows_of(other, file)) for (_, other), file in zip(others, opened)]
-        for start, end in joined(((start, end) for start, end, value in rows if value is not None), gap):
-            fields = [look.time(start), look.time(end), length_text(look.clock, end - start)]
-            for one, shape in zip(within, shapes):
-                least, greatest, total, ticks = one.figures(start, end)
-                fields += [shape.value(least), shape.value(greatest), mean_text(total, ticks, shape.scale)]
-            yield fields
+    look.check(shapes, "the files of --of have other ticks or origins than the episodes")
+    within = [Within(rows_in(other, sha256=shape.sha256)) for (_, other), shape in zip(others, shapes)]
+    for start, end in joined(((start, end) for start, end, value in rows if value is not None), gap):
+        fields = [look.time(start), look.time(end), length_text(look.clock, end - start)]
+        for one, shape in zip(within, shapes):
+            least, greatest, total, ticks = one.figures(start, end)
+            fields += [shape.value(least), shape.value(greatest), mean_text(total, ticks, shape.scale)]
+        yield fields
