@@ -4,13 +4,12 @@ from __future__ import annotations
 import argparse
 import concurrent.futures
 import contextlib
-import dataclasses
 import glob
 import itertools
 import os
 import re
 import sys
-from typing import Any, Iterator
+from typing import Any, Iterator, NamedTuple
 
 from .clock import Clock
 from .errors import Refused, note, printable
@@ -25,9 +24,8 @@ which the first such file exists. The other inputs are the same for all keys. Th
 key,start,end,value."""
 
 
-@dataclasses.dataclass(frozen=True)
-class Done:
-    """A key, the file of its output, its status, and what was told."""
+class Done(NamedTuple):
+    """A key, the file of its output, its status, what was told, and the arguments of the program."""
 
     key: str
     file: str
@@ -55,32 +53,22 @@ def keys_of(pattern: str) -> list[str]:
     return sorted(key for key in keys if os.path.exists(pattern.replace("{key}", key)))
 
 
-def check_keys(names: list[str]) -> None:
-    """Rejects two names of one key, as Zürich and Z%C3%BCrich."""
-    known: dict[str, str] = {}
-    for name in names:
-        other = known.setdefault(unsafe(name), name)
-        if other != name:
-            raise Refused(f"{other} and {name} are names of one key, {unsafe(name)}: rename one of them")
-
-
-def run_key(words: list[str], key: str, file: str, running: Processes) -> Done:
-    """Runs the program for a key."""
-    ours = [word.replace("{key}", key) for word in words]
-    with open(file, "wb") as out:
-        called = call(["run", *ours], out, its=running)
-    return Done(unsafe(key), file, called.status, called.told, ours)
-
-
 def runs(words: list[str], keys: list[str], jobs: int, folder: str) -> Iterator[Done]:
     """What each key comes to, in the order of the keys; some more than `jobs` are begun at a time, and no more. If the caller stops, the
     programs that run are killed."""
     running = Processes()
+
+    def run(key: str, file: str) -> Done:
+        ours = [word.replace("{key}", key) for word in words]
+        with open(file, "wb") as out:
+            called = call(["run", *ours], out, its=running)
+        return Done(unsafe(key), file, called.status, called.told, ours)
+
     with concurrent.futures.ThreadPoolExecutor(jobs) as pool:
         begun: list[concurrent.futures.Future[Done]] = []
         try:
             for at, key in enumerate(keys):
-                begun.append(pool.submit(run_key, words, key, os.path.join(folder, str(at)), running))
+                begun.append(pool.submit(run, key, os.path.join(folder, str(at))))
                 if len(begun) > 2 * jobs:
                     yield begun.pop(0).result()
             while begun:
@@ -118,7 +106,12 @@ def main(words: argparse.Namespace) -> int:
     keys = keys_of(patterns[0])
     if not keys:
         raise Refused(f"{patterns[0]}: no file has this name, for any key")
-    check_keys(keys)
+    # Two names can be of one key, as Zürich and Z%C3%BCrich.
+    known: dict[str, str] = {}
+    for name in keys:
+        other = known.setdefault(unsafe(name), name)
+        if other != name:
+            raise Refused(f"{other} and {name} are names of one key, {unsafe(name)}: rename one of them")
     refused = []
     with scratch() as folder, writing(words.out) as out:
         out.write("key,start,end,value\n")

@@ -100,19 +100,18 @@ def cut(rows: Iterator[Row], lo: int, hi: int) -> Iterator[Row]:
 
 def days_of(clock: Clock, zone: str | None, lo: int, hi: int) -> Iterator[datetime.date]:
     """The days of a zone that have to do with a stretch of ticks, in order."""
-    first, last = (day_at(clock.moment(tick), zone) for tick in (lo, hi))
+    try:
+        first, last = (day_at(clock.moment(tick), zone) for tick in (lo, hi))
+    except Refused as error:
+        raise Refused(f"{error}: take a nearer --from or --to") from error
     if first < FIRST_DAY or last > LAST_DAY:
         raise Refused(f"from {first} to {last}: days from {FIRST_DAY} to {LAST_DAY} were expected: take a nearer --from or --to")
-    for number in range(first.toordinal() - 1, last.toordinal() + 2):
-        yield datetime.date.fromordinal(number)
+    return map(datetime.date.fromordinal, range(first.toordinal() - 1, last.toordinal() + 2))
 
 
 def day_at(moment: int, zone: str | None) -> datetime.date:
     """The day that a zone has at a moment."""
-    try:
-        return datetime.date.fromisoformat(moment_text(moment, 0, zone_of(zone))[:10])
-    except Refused as error:
-        raise Refused(f"{error}: take a nearer --from or --to") from error
+    return datetime.date.fromisoformat(moment_text(moment, 0, zone_of(zone))[:10])
 
 
 def moment_on(day: datetime.date, minutes: int, zone: str | None) -> int:
@@ -130,7 +129,7 @@ def edge(clock: Clock, moment: int) -> int:
 
 def weekdays(clock: Clock, zone: str | None, lo: int, hi: int) -> Iterator[Row]:
     for day in days_of(clock, zone, lo, hi):
-        following = datetime.date.fromordinal(day.toordinal() + 1)
+        following = day + datetime.timedelta(1)
         yield edge(clock, moment_on(day, 0, zone)), edge(clock, moment_on(following, 0, zone)), day.isoweekday()
 
 

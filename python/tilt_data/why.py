@@ -4,7 +4,7 @@ The program's own line stands first, and nothing is added that says otherwise: a
 line of the program."""
 from __future__ import annotations
 
-import argparse
+import contextlib
 import csv
 import dataclasses
 import difflib
@@ -74,17 +74,6 @@ def placed(file: str, text: bytes, fault: Fault) -> Refusal:
     return Refusal(file, place.line, place.column, place.text, width, fault.expected, fault.cure)
 
 
-def query_refusal(file: str, line: str) -> Refusal | None:
-    """The place in a query, where reading it here comes to the same line."""
-    try:
-        with open(file, "rb") as opened:
-            text = opened.read()
-    except OSError:
-        return None
-    fault = fault_of(text)
-    return placed(file, text, fault) if fault is not None and fault.line == line else None
-
-
 def bound(words: list[str]) -> dict[str, str]:
     """The files of the inputs, by the words of `run`."""
     found: dict[str, str] = {}
@@ -100,36 +89,25 @@ def bound(words: list[str]) -> dict[str, str]:
 
 
 def series_refusal(found: re.Match[str], files: dict[str, str]) -> Refusal | None:
-    """The line of a series file, by the row that the program counted."""
-    file = files.get(found[2])
+    """The line of a series file, by the row that the program counted; without one it is the header."""
+    file, number = files.get(found[2]), int(found[1])
     if file is None or not os.path.isfile(file):
         return None
-    row = ROW.search(found[3])
-    line, text, before = record_of(file, int(row[1]) if row else 0)
-    if line is None:
-        return None
-    cure = CURES[int(found[1])]
-    if int(found[1]) == 15 and before:
-        cure += f"; the row before is {before}"
-    return Refusal(file, line, None, text, 1, found[3], cure)
-
-
-def record_of(file: str, row: int) -> tuple[int | None, str, str]:
-    """The line of a row of a series, counted as the program does, its text, and that of the row before; row 0 is the header."""
-    before = ""
+    row, count, before = ROW.search(found[3]), -1, ""
+    wanted = int(row[1]) if row else 0
     try:
         with open(file, encoding="utf-8-sig", errors="replace", newline="") as opened:
             reader = csv.reader(opened)
-            count = -1
-            for record in reader:
-                if record:
-                    count += 1
-                    if count == row:
-                        return reader.line_num, ",".join(record), before
-                    before = ",".join(record) if count else ""
+            for record in filter(None, reader):
+                count += 1
+                text = ",".join(record)
+                if count == wanted:
+                    cure = CURES[number] + (f"; the row before is {before}" if number == 15 and before else "")
+                    return Refusal(file, reader.line_num, None, text, 1, found[3], cure)
+                before = text if count else ""
     except (OSError, csv.Error):
-        return None, "", ""
-    return (1, "", "") if row == 0 else (None, "", "")
+        return None
+    return None if wanted else Refusal(file, 1, None, "", 1, found[3], CURES[number])
 
 
 def names_refusal(query: str, name: str, words: list[str]) -> Refusal:
@@ -150,14 +128,13 @@ def fault_refusal(file: str) -> Refusal | None:
     try:
         with open(file, "rb") as opened:
             opened.read(1)
+        return None
     except OSError as error:
         folder, name = os.path.split(file)
-        try:
+        near: list[str] = []
+        with contextlib.suppress(OSError):
             near = difflib.get_close_matches(name, os.listdir(folder or "."), 1)
-        except OSError:
-            near = []
         return Refusal(file, expected=str(error.strerror), cure=f"did you mean {os.path.join(folder, near[0])}?" if near else "")
-    return None
 
 
 def refusal_of(told: str, words: list[str]) -> Refusal | None:
@@ -165,7 +142,11 @@ def refusal_of(told: str, words: list[str]) -> Refusal | None:
     line = told.removeprefix("tilt: ").rstrip("\n")
     query = words[0] if words else ""
     if re.match(r"(2\d|3[01]) ", line):
-        return query_refusal(query, line)
+        text = b""
+        with contextlib.suppress(OSError), open(query, "rb") as opened:
+            text = opened.read()
+        fault = fault_of(text)
+        return placed(query, text, fault) if fault is not None and fault.line == line else None
     found = SERIES_LINE.fullmatch(line)
     if found:
         return series_refusal(found, bound(words))
@@ -246,11 +227,6 @@ def run(words: list[str]) -> int:
     return status
 
 
-def why(words: argparse.Namespace) -> int:
-    """The same for a query alone; where it is taken, what `tilt explain` prints."""
-    return passed_on("explain", [words.query])
-
-
 def add(commands: Any) -> None:
     # It is here for the list of commands and its own help: `cli.main` hands all other words on as they are.
     commands.add_parser(
@@ -259,8 +235,7 @@ def add(commands: Any) -> None:
         usage="tilt-data run QUERY NAME=FILE .. [--plain] [--cut TIME,..]",
         description="Runs `tilt run` with the same arguments: its output, line and status. After an error the place and a fix follow.",
     )
-    parser = commands.add_parser(
-        "why", help="why a query is rejected", description="Prints why a query is rejected, and where; else what `tilt explain` prints."
-    )
+    description = "Prints why a query is rejected, and where; else what `tilt explain` prints."
+    parser = commands.add_parser("why", help="why a query is rejected", description=description)
     parser.add_argument("query", metavar="QUERY")
-    parser.set_defaults(main=why)
+    parser.set_defaults(main=lambda words: passed_on("explain", [words.query]))
