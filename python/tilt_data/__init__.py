@@ -10,9 +10,9 @@ from typing import TYPE_CHECKING, Any
 if TYPE_CHECKING:
     from .convention import Convention
     from .errors import Refused, TiltError
-    from .explain import Explained
     from .frames import Live, Query, run, series, span
     from .plotting import plot
+    from .program import Explained
     from .scaling import Scaled, scale
     from .version import VERSION as __version__
 
@@ -22,9 +22,9 @@ __all__ += ["plot", "run", "scale", "series", "span"]
 NAMES = {
     "convention": ["Convention"],
     "errors": ["Refused", "TiltError"],
-    "explain": ["Explained"],
     "frames": ["Live", "Query", "run", "series", "span"],
     "plotting": ["plot"],
+    "program": ["Explained"],
     "scaling": ["Scaled", "scale"],
     "version": ["__version__"],
 }

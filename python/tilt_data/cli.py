@@ -71,11 +71,9 @@ def called(words: list[str]) -> int:
     try:
         # The words of `run` are the program's, whatever they are.
         if words[:1] == ["run"] and words[1:] not in (["--help"], ["-h"]):
-            status: int = module_of("run").run(words[1:])
-            return status
+            return int(module_of("run").run(words[1:]))
         parsed = parser_of(words[0] if words and words[0] in COMMANDS else None).parse_args(words)
-        status = parsed.main(parsed)
-        return status
+        return int(parsed.main(parsed))
     except Refused as refused:
         report("\n".join(map(printable, str(refused).split("\n"))))
         return refused.status
@@ -99,8 +97,13 @@ def called(words: list[str]) -> int:
 
 
 def report(text: str) -> None:
+    """What standard output doesn't take isn't tried again at the end."""
     note(text)
-    give_up_output()
+    try:
+        if sys.stdout is not None:
+            sys.stdout.flush()
+    except OSError:
+        os.dup2(os.open(os.devnull, os.O_WRONLY), 1)
 
 
 def prepare_streams() -> None:
@@ -138,15 +141,6 @@ def ending() -> Iterator[None]:
     finally:
         for number in taken:
             signal.signal(number, signal.SIG_DFL)
-
-
-def give_up_output() -> None:
-    """What standard output doesn't take isn't tried again at the end."""
-    try:
-        if sys.stdout is not None:
-            sys.stdout.flush()
-    except OSError:
-        os.dup2(os.open(os.devnull, os.O_WRONLY), 1)
 
 
 if __name__ == "__main__":

@@ -79,10 +79,7 @@ class Convention:
             raise Refused(f"scale={wrong!r}: a whole number above 0 or 'auto' was expected")
         if self.output_scale is not None and not is_count(self.output_scale):
             raise Refused(f"output_scale={self.output_scale!r}: a whole number above 0 was expected")
-        self.check_events()
-
-    def check_events(self) -> None:
-        """An event has one tick, so that nothing can be said of how long it holds."""
+        # An event has one tick, so that nothing can be said of how long it holds.
         if self.event is True and (self.max_age is not None or self.until is not None):
             raise Refused("event=True: a reading is an event of one tick; max_age and until are for readings that hold")
         for name in self.max_age if isinstance(self.max_age, Mapping) else ():
@@ -168,7 +165,13 @@ class TextConvention(Convention):
         like = None if words.like is None else notes_of_like(words.like)
         same = {name: getattr(words, name) for name in ("tick", "origin", "closed", "event", "until", "ties", "skip_empty", "unit", "zone")}
         null = frozenset(text for texts in words.null for text in texts.split(",") if text)
-        scale = {name: factor_of(name, text) for name, text in named_once("--scale", words.scale).items()}
+        scale: dict[str, Factor] = {}
+        for name, text in named_once("--scale", words.scale).items():
+            try:
+                scale[name] = "auto" if text == "auto" else scale_of(text)
+            except ValueError as error:
+                word = f"{name}={text}" if name else text
+                raise Refused(f"--scale {word}: a whole number above 0, auto, or NAME=N was expected") from error
         return cls(**same, max_age=named_once("--max-age", words.max_age), scale=scale, null=null, like=like)
 
     def shown(self, option: str, name: str = "") -> str:
@@ -275,14 +278,6 @@ def named_once(option: str, words: list[str]) -> dict[str, str]:
             raise Refused(f"{option} {what}: it is given twice, as {found[name]} and {text}: give it once")
         found[name] = text
     return found
-
-
-def factor_of(name: str, text: str) -> Factor:
-    try:
-        return "auto" if text == "auto" else scale_of(text)
-    except ValueError as error:
-        shown_word = f"{name}={text}" if name else text
-        raise Refused(f"--scale {shown_word}: a whole number above 0, auto, or NAME=N was expected") from error
 
 
 def spelled_all(option: str, given: Mapping[str, Any]) -> str | None:

@@ -36,9 +36,9 @@ from .clock import TIMES, WHOLE, Moments, duration_of, zone_of
 from .convention import TextConvention
 from .convert import Converter, Late, Tie, row_text
 from .errors import Refused, note, printable
-from .explain import Explained
 from .files import Notes, Row, failing_at, locked, notes_of, rows_in, sync, writing
 from .over import over_of
+from .program import Explained
 from .scales import GREATEST, LEAST, Scale
 from .version import VERSION
 from .why import clashes

@@ -1,4 +1,4 @@
-"""Finds the program `tilt`, and calls it."""
+"""Finds the program `tilt`, calls it, and reads what it says of a query."""
 from __future__ import annotations
 
 import dataclasses
@@ -121,3 +121,30 @@ def call(
 
 def in_memory() -> IO[bytes]:
     return open(os.memfd_create("tilt-data"), "w+b")
+
+
+@dataclasses.dataclass(frozen=True)
+class Explained:
+    """What `tilt explain` says: the look-back and look-ahead in ticks; each input's, None where it isn't used; each definition's, with
+    whether it has a loop; and how many loops there are, fused and plain."""
+
+    back: int
+    ahead: int
+    inputs: dict[str, tuple[int, int] | None]
+    definitions: dict[str, tuple[str, int, int] | None]
+    loops: tuple[int, int]
+
+    @staticmethod
+    def of(text: str) -> Explained:
+        lines = [line.split() for line in text.splitlines()]
+        inputs = {name: None if rest[0] == "unused" else (int(rest[0]), int(rest[1])) for form, name, *rest in lines if form == "input"}
+        found = {name: rest for form, name, *rest in lines if form == "let"}
+        lets = {name: None if rest[0] == "unused" else (rest[0], int(rest[1]), int(rest[2])) for name, rest in found.items()}
+        (back, ahead), loops = ((int(words[1]), int(words[2])) for word in ("reach", "loops") for words in lines if words[0] == word)
+        return Explained(back, ahead, inputs, lets, loops)
+
+
+def inputs_of(query: str) -> list[str]:
+    """The inputs of the query in a file, in order; none if the program rejects it."""
+    called = call(["explain", query])
+    return [] if called.status else list(Explained.of(called.printed.decode()).inputs)

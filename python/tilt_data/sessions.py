@@ -6,7 +6,7 @@ from typing import Iterable, Mapping
 
 from . import program
 from .errors import TiltError
-from .explain import Explained
+from .program import Explained
 from .files import HEADER_LINE, failing_at
 from .why import refusal_of
 

@@ -14,10 +14,9 @@ import sys
 from typing import Any, Iterable, Iterator, Mapping, TypeVar
 
 from .errors import Refused, note, printable
-from .explain import inputs_of
 from .files import Notes, Stale, notes_of
 from .forms import fault_of
-from .program import call
+from .program import call, inputs_of
 from .tokens import Fault, place_of
 
 SERIES_LINE = re.compile(r"(1[0-7]) series (\S+): (.*)")
