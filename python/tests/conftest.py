@@ -1,12 +1,13 @@
 """What the tests share: the repository, the built program, and a call of a command."""
 from __future__ import annotations
 
+import contextlib
 import csv
 import os
 import pathlib
 import subprocess
 import sys
-from typing import Callable, Iterator
+from typing import Any, Callable, Iterator
 
 import pytest
 
@@ -56,6 +57,33 @@ def told(
         return status, out, err
 
     return call
+
+
+def forked(words: list[str], env: dict[str, str], **how: Any) -> subprocess.Popen[bytes]:
+    """Begins a command in a process that is a copy of this one: it needn't start Python and load all modules, which takes most of the time
+    of a short call. What it brings to the disk would only take time: no test stops the machine."""
+    before = how.pop("preexec_fn", lambda: None)
+
+    def run() -> None:
+        before()
+        # The caller goes on once its pipe is closed, as a program that is started does it.
+        os.closerange(3, 1024)
+        os.environ.clear()
+        os.environ.update(env)
+        os.fsync = lambda _: None
+        sys.stdin, sys.stdout, sys.stderr = open(0), open(1, "w"), open(2, "w", buffering=1)
+        status: Any = 1
+        try:
+            status = main(words)
+        except SystemExit as end:
+            status = end.code
+        finally:
+            with contextlib.suppress(OSError, ValueError):
+                sys.stdout.flush()
+            os._exit(status)
+
+    # A Python that is started ignores SIGPIPE.
+    return subprocess.Popen([sys.executable], preexec_fn=run, restore_signals=False, **how)
 
 
 def rows_in(path: str) -> list[tuple[int, int, int | None]]:

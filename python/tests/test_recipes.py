@@ -13,13 +13,17 @@ from conftest import TOP
 # or after all of it was done, like a kill between two steps.
 STAND_IN = """#!/bin/sh
 echo >> "$COUNT"
-at=$(wc -l < "$COUNT")
-if [ "$at" -eq "$AT" ] && [ "$HOW" = before ]; then
+at=0
+while read -r _; do
+    at=$((at + 1))
+done < "$COUNT"
+[ "$at" -eq "$AT" ] || exec "$REAL"/{name} "$@"
+if [ "$HOW" = before ]; then
     echo 1,2,bro
     exit 137
 fi
 "$REAL"/{name} "$@" || exit
-[ "$at" -ne "$AT" ] || exit 137
+exit 137
 """
 STEPS = ("tilt", "mv", "sync", "cat")
 
@@ -35,7 +39,8 @@ def folder(tmp_path: pathlib.Path, tilt: str) -> pathlib.Path:
     for name in STEPS:
         (tmp_path / "stand-ins" / name).write_text(STAND_IN.format(name=name))
         (tmp_path / "stand-ins" / name).chmod(0o755)
-        os.symlink(tilt if name == "tilt" else f"/bin/{name}", tmp_path / "real" / name)
+        # No test stops the machine: what is brought to the disk here would only take time.
+        os.symlink({"tilt": tilt, "sync": "/bin/true"}.get(name, f"/bin/{name}"), tmp_path / "real" / name)
     return tmp_path
 
 
