@@ -11,6 +11,7 @@ package can't be had, and all of them if pytest can't be, are printed as left ou
 from __future__ import annotations
 
 import argparse
+import concurrent.futures
 import os
 import re
 import subprocess
@@ -40,6 +41,8 @@ BROWSER = {"chromium": "chromium"}
 CHOSEN = {"without-program": "not program", "with-program": "program"}
 NO_PROGRAM = os.path.join(os.sep, "there", "is", "no", "program")
 NOT_BUILT = "the program isn't built"
+# In how many parts the tests are run, and how many at the same time; and pytest's status if it has no test to run.
+PARTS, AT_ONCE, NO_TESTS = 6, 2, 5
 
 
 def is_there(package: str) -> bool:
@@ -64,11 +67,24 @@ def tests(report: str) -> tuple[int, int, list[str]]:
     return passed, failed, left_out
 
 
+def files() -> list[str]:
+    """The files of tests, the largest first."""
+    folder = os.path.join(TOP, "python", "tests")
+    paths = [os.path.join(folder, name) for name in sorted(os.listdir(folder)) if name.startswith("test_")]
+    return sorted(paths, key=os.path.getsize, reverse=True)
+
+
+def parts() -> list[list[str]]:
+    """The files of tests in parts of about the same size, in the order of their largest files."""
+    found: list[list[str]] = [[] for _ in range(PARTS)]
+    for path in files():
+        min(found, key=lambda part: sum(map(os.path.getsize, part))).append(path)
+    return [part for part in found if part]
+
+
 def written() -> list[str]:
     """The tests that stand in python/tests."""
-    folder = os.path.join(TOP, "python", "tests")
-    texts = [open(os.path.join(folder, name), encoding="utf-8").read() for name in sorted(os.listdir(folder)) if name.startswith("test_")]
-    return re.findall(r"^def test_\w+", "\n".join(texts), re.MULTILINE)
+    return re.findall(r"^def test_\w+", "\n".join(open(path, encoding="utf-8").read() for path in files()), re.MULTILINE)
 
 
 def note_tests(report: str, status: int, which: str | None, tally: Tally) -> None:
@@ -84,16 +100,28 @@ def note_tests(report: str, status: int, which: str | None, tally: Tally) -> Non
 
 
 def run_tests(which: str | None, tally: Tally) -> None:
-    with tempfile.TemporaryDirectory() as folder:
-        report = os.path.join(folder, "report.xml")
-        words = [SYSTEM_PYTHON, "-m", "pytest", "-q", "-p", "no:cacheprovider", f"--junitxml={report}", os.path.join(TOP, "python")]
-        environment = {**os.environ, "PYTHONDONTWRITEBYTECODE": "1"}
-        if which is not None:
-            words += ["-m", CHOSEN[which]]
-        if which == "without-program":
-            environment["TILT"] = NO_PROGRAM
-        done = subprocess.run(words, cwd=TOP, stdin=subprocess.DEVNULL, env=environment)
-        note_tests(report, done.returncode, which, tally)
+    """Runs the parts, some at the same time."""
+    environment = {**os.environ, "PYTHONDONTWRITEBYTECODE": "1"}
+    if which == "without-program":
+        environment["TILT"] = NO_PROGRAM
+    chosen = [] if which is None else ["-m", CHOSEN[which]]
+
+    def run(report: str, part: list[str]) -> subprocess.CompletedProcess[str]:
+        words = [SYSTEM_PYTHON, "-m", "pytest", "-q", "-p", "no:cacheprovider", f"--junitxml={report}", *part, *chosen]
+        # What a part prints is shown at its end.
+        out = subprocess.PIPE
+        return subprocess.run(words, cwd=TOP, env=environment, stdin=subprocess.DEVNULL, stdout=out, stderr=subprocess.STDOUT, text=True)
+
+    with tempfile.TemporaryDirectory() as folder, concurrent.futures.ThreadPoolExecutor(AT_ONCE) as pool:
+        reports = {os.path.join(folder, f"{number}.xml"): part for number, part in enumerate(parts())}
+        statuses = []
+        for report, done in zip(reports, pool.map(run, reports, reports.values())):
+            print(done.stdout, end="", flush=True)
+            statuses.append(done.returncode)
+            # It may be that none of the tests of a part is chosen.
+            note_tests(report, 0 if done.returncode == NO_TESTS else done.returncode, which, tally)
+        if set(statuses) == {NO_TESTS}:
+            tally.expect(False, "there is no test")
 
 
 def main(arguments: list[str]) -> int:
