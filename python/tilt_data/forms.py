@@ -12,10 +12,7 @@ from .tokens import NOTHING, Fault, Faulty, Token, place
 MOST_PERIOD = 10**12 + 1
 FARTHEST = 10**12
 WORDS = {"int": "a number", "bool": "a truth value"}
-CURES = {
-    "bool": "a number becomes a truth value by a comparison, as x != 0",
-    "int": "a truth value becomes a number by if c then 1 else 0",
-}
+CURES = {"bool": "a number becomes a truth value by a comparison, as x != 0", "int": "a truth value becomes a number by if c then 1 else 0"}
 
 
 def fault_of(text: bytes) -> Fault | None:

@@ -118,10 +118,7 @@ class Reader:
             (kind == "the end" and ends_emit, "an emit says for which ticks it prints, as over (0, 100]; and ends with `;`"),
             (kind == "the end", "a statement ends with `;`"),
             (kind in COMPARISONS, "a comparison of comparisons needs parentheses; between two limits write a < x and x < b"),
-            (
-                token.text.lower() in RESERVED and kind == "name",
-                f"reserved words are written in small letters: {token.text.lower()}",
-            ),
+            (token.text.lower() in RESERVED and kind == "name", f"reserved words are written in small letters: {token.text.lower()}"),
             (expected == "`]`" and kind == ")", "a span has its end in it, and is written over (0, 10]"),
             (expected == "`(`" and kind == "[", "a span begins with `(`: over (0, 10]"),
             (expected == "`t`" and kind in ("number", "-"), "an offset is written from t: x[t-2]"),
