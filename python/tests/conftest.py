@@ -5,6 +5,7 @@ import contextlib
 import csv
 import os
 import pathlib
+import signal
 import subprocess
 import sys
 from typing import Any, Callable, Iterator
@@ -66,6 +67,9 @@ def forked(words: list[str], env: dict[str, str], **how: Any) -> subprocess.Pope
 
     def run() -> None:
         before()
+        # As a Python that is started handles it.
+        if signal.getsignal(signal.SIGINT) is signal.SIG_DFL:
+            signal.signal(signal.SIGINT, signal.default_int_handler)
         # The caller goes on once its pipe is closed, as a program that is started does it.
         os.closerange(3, 1024)
         os.environ.clear()

@@ -7,7 +7,7 @@ import datetime
 import numbers
 from typing import Any, Iterable, Literal, Mapping, TypedDict, TypeVar, Union
 
-from .clock import TIMES, Clock, Moments, duration_of, duration_text, moment_text, zone_of
+from .clock import DAY, TIMES, Clock, Moments, duration_of, duration_text, moment_text, zone_of
 from .convert import TIES, Rule
 from .errors import Refused
 from .files import Notes, notes_of_like
@@ -16,6 +16,8 @@ from .scales import scale_of
 Time = Union[str, datetime.date]
 Factor = Union[int, Literal["auto"]]
 T = TypeVar("T")
+# The years 1 to 9999 of UTC, in nanoseconds since 1970.
+FIRST_SHOWN, LAST_SHOWN = -719162 * DAY, 2932897 * DAY
 
 
 class Options(TypedDict, total=False):
@@ -204,41 +206,34 @@ class TextConvention(Convention):
         return tick
 
     @property
-    def has_clock(self) -> bool:
-        """Whether the clock is known before there is a reading."""
-        return self.tick is not None and self.origin is not None or self.like is not None
+    def given(self) -> tuple[int | None, int | None, str]:
+        """The length of a tick, the origin and the closed edge that are given, or those of the series of `like`."""
+        like = None if self.like is None else self.like.clock
+        tick = duration_of(self.tick) if self.tick is not None else None if like is None else like.tick
+        origin = self.moment(self.origin) if self.origin is not None else None if like is None else like.origin
+        return tick, origin, self.closed or ("left" if like is None else like.closed)
 
     def clock(self, first: int) -> Clock:
-        """The clock that is given, or that of the series of `like`; otherwise it starts at the midnight before the first reading, which
-        is a ValueError if there is no such moment."""
-        like = None if self.like is None else self.like.clock
-        if self.tick is not None:
-            tick = duration_of(self.tick)
-        elif like is not None:
-            tick = like.tick
-        else:
+        """The clock that is given; otherwise it starts at the midnight before the first reading, which is a ValueError if there is no such
+        moment."""
+        tick, origin, closed = self.given
+        if tick is None:
             raise Refused("how long is a tick? --tick 1s, 1ms, 1min, .. or --like a series that was written before")
-        closed = self.closed or (like.closed if like is not None else "left")
-        if self.origin is None:
-            return Clock(tick, midnight_before(first, self.zone) if like is None else like.origin, closed)
-        origin = self.moment(self.origin)
-        if not is_shown(origin):
+        if self.origin is not None and origin is not None and not is_shown(origin):
             raise Refused(f"--origin {self.origin}: in UTC it lies outside of the years 1 to 9999: name another moment")
-        return Clock(tick, origin, closed)
+        return Clock(tick, midnight_before(first, self.zone) if origin is None else origin, closed)
 
     def arguments(self) -> dict[str, Any]:
         """All that makes rows of readings, by the option that gives it. The clock and the scale are those that --tick, --origin, --closed,
         --scale and --like give together. Each value has one spelling, which the option takes."""
-        like = None if self.like is None else self.like.clock
-        tick = duration_of(self.tick) if self.tick is not None else None if like is None else like.tick
-        origin = self.moment(self.origin) if self.origin is not None else None if like is None else like.origin
+        tick, origin, closed = self.given
         scales = dict(self.scale) if isinstance(self.scale, Mapping) else {"": self.scale}
         scales.setdefault("", 1 if self.like is None else self.like.scale)
         ages = self.max_age if isinstance(self.max_age, Mapping) else {}
         return {
             "--tick": None if tick is None else duration_text(tick),
             "--origin": None if origin is None else time_text(origin),
-            "--closed": self.closed or ("left" if like is None else like.closed),
+            "--closed": closed,
             "--scale": scales[""] if len(scales) == 1 else spelled_all("--scale", scales),
             "--zone": self.zone or "UTC",
             "--unit": self.unit,
@@ -328,11 +323,8 @@ def midnight_before(moment: int, zone: str | None) -> int:
         midnight = Moments(None, local).iso(moment_text(moment, 0, local)[:10])
         moment_text(midnight, 0)
     except (Refused, ValueError) as error:
-        where = "" if zone is None else f" in {zone}"
-        raise ValueError(
-            f"the first reading, at {time_text(moment)}, has no midnight before it{where}, or it has two: name the moment of "
-            "the first tick by --origin"
-        ) from error
+        what = f"has no midnight before it{'' if zone is None else f' in {zone}'}, or it has two"
+        raise ValueError(f"the first reading, at {time_text(moment)}, {what}: name the moment of the first tick by --origin") from error
     return midnight
 
 
@@ -343,8 +335,4 @@ def time_text(moment: int) -> str:
 
 def is_shown(moment: int) -> bool:
     """Whether a moment lies in the years 1 to 9999 of UTC."""
-    try:
-        moment_text(moment, 0)
-    except Refused:
-        return False
-    return True
+    return FIRST_SHOWN <= moment < LAST_SHOWN

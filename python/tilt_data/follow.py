@@ -66,16 +66,11 @@ def add(commands: Any) -> None:
     parser.add_argument("--state", metavar="FOLDER", required=True, help="the folder of the state and of output.csv")
     parser.add_argument("--every", metavar="DURATION", default="60s", help="how often a session is run (60s)")
     parser.add_argument("--rows", type=int, metavar="N", help="also run one after N lines")
-    parser.add_argument(
-        "--again",
-        action="store_true",
-        help="standard input starts with the same first line at each call, as from `tail -n +1 -F` of a file that "
-        "isn't rotated. The lines that were taken before are skipped, and rejected if they differ",
-    )
+    again = "standard input starts with the same first line at each call, as from `tail -n +1 -F` of a file that isn't rotated. The lines "
+    parser.add_argument("--again", action="store_true", help=f"{again}that were taken before are skipped, and rejected if they differ")
     parser.add_argument("--end", action="store_true", help="no more lines will come: at the end of standard input, print all that is left")
-    parser.add_argument(
-        "--skip-bad", action="store_true", help="a line that can't be taken is reported, written to rejected.log in the folder, and skipped"
-    )
+    bad = "a line that can't be taken is reported, written to rejected.log in the folder, and skipped"
+    parser.add_argument("--skip-bad", action="store_true", help=bad)
     parser.add_argument("--quiet", action="store_true", help="print nothing: output.csv has it")
     TextConvention.add_to(parser, lasting=True)
     parser.set_defaults(main=main)
@@ -140,16 +135,12 @@ class Source:
         where all is decided, is rejected."""
         self.count(kept["handed"])
         if self.handed < kept["handed"] or self.digest.hexdigest() != kept.get("digest", self.digest.hexdigest()):
-            raise Refused(
-                f"{self.path}: its first {kept['handed']} rows aren't those that {state} was given before: give the file as it "
-                "was, or name another --state"
-            )
+            what = f"its first {kept['handed']} rows aren't those that {state} was given before"
+            raise Refused(f"{self.path}: {what}: give the file as it was, or name another --state")
         if self.handed < len(self.rows) and self.rows[self.handed][0] < cut:
             start, end, _ = self.rows[self.handed]
-            raise Refused(
-                f"{self.path}: its row {start},{end} is new and starts before {cut}, up to where {state} went: take "
-                f"out new rows that start before {cut}, or name another --state"
-            )
+            what = f"its row {start},{end} is new and starts before {cut}, up to where {state} went"
+            raise Refused(f"{self.path}: {what}: take out new rows that start before {cut}, or name another --state")
 
     def dump(self) -> Taken:
         if self.fixed:
@@ -170,7 +161,7 @@ class Reader:
         if None in scales.values():
             raise Refused("--scale auto: rows are handed on before all data are there, so a whole number above 0 was expected")
         self.scales = {name: Scale(scale or 1) for name, scale in scales.items()}
-        self.clock = self.convention.clock(0) if self.convention.has_clock else None
+        self.clock = None if None in self.convention.given else self.convention.clock(0)
         self.until = self.convention.until_tick(self.clock)
         self.unknown: set[str] = set()
 
@@ -585,10 +576,8 @@ class Follower:
             else:
                 self.reader.load(name, kept)
         if self.store.cut != "begin" and "shape" not in notes:
-            note(
-                f"{state} is of an earlier version, which kept neither options nor digests of files: make sure that this call has those "
-                "of the call before"
-            )
+            what = "which kept neither options nor digests of files: make sure that this call has those of the call before"
+            note(f"{state} is of an earlier version, {what}")
 
     def compare_files(self) -> None:
         """Notes in what the files differ from the readings, or from each other."""
@@ -692,10 +681,8 @@ class Follower:
         """Takes what comes on a descriptor until its end, or that of the query's output."""
         passing = Passing(self.chain, self.words.state) if self.words.again else None
         if passing is not None and not self.chain.known:
-            note(
-                f"{self.words.state} is of an earlier version, which kept no digest of the lines that it took: make sure that the input "
-                "starts with the same first line"
-            )
+            what = "which kept no digest of the lines that it took: make sure that the input starts with the same first line"
+            note(f"{self.words.state} is of an earlier version, {what}")
         due = time.monotonic() + self.every
         for lines in chunks(number, lambda: due, self.words.end):
             lines = lines if passing is None else passing.rest(lines)
