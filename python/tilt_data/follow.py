@@ -277,8 +277,8 @@ def option_text(option: str, value: Any) -> str:
 
 
 def shown(line: bytes, most: int | None = None) -> str:
-    """A line as a text that a terminal can take: each byte of what isn't printable or isn't UTF-8, and of a backslash, is written \\xNN. What
-    is after the most signs is left out."""
+    """A line as a text that a terminal can take: each byte of what isn't printable or isn't UTF-8, and of a backslash, is written \\xNN.
+    What is after the most signs is left out."""
     text = "".join(
         sign if sign.isprintable() and sign != "\\" else "".join(f"\\x{byte:02x}" for byte in sign.encode("utf-8", "surrogateescape"))
         for sign in line.decode("utf-8", "surrogateescape")

@@ -20,7 +20,7 @@ from .convention import Convention, Options, check_flag, check_one_of, conventio
 from .convert import Converter
 from .degrees import scale_notes
 from .errors import Refused, TiltError
-from .files import HEADER_LINE, Notes, Outputs, Row, check_replaceable, notes_of, notes_path, reading, safe, scratch
+from .files import HEADER_LINE, Notes, Outputs, check_replaceable, notes_of, notes_path, reading, safe, scratch
 from .keys import APART, Alone, Batches, readings_by_key
 from .over import Extent, Over, cut_note, edges_of, over_of
 from .program import REFUSALS, Explained

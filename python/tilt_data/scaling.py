@@ -483,8 +483,8 @@ class Run:
         return Joining(key, tuple(self.files[key]), self.plan.whole_file(key))
 
     def missing(self) -> Iterator[Task]:
-        """The tasks of all parts whose files aren't there. A key whose output is there, joined from the parts that this call would make, has
-        none."""
+        """The tasks of all parts whose files aren't there. A key whose output is there, joined from the parts that this call would make,
+        has none."""
         for key in self.plan.files:
             digest = self.listing.digest(self.plan.whole_name(key))
             if digest is not None and digest == parts_digest(task.file for task in self.plan.tasks(key)):
