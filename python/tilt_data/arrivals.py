@@ -103,8 +103,7 @@ def read_arrivals(arrivals: Arrivals, series: int, file: str, is_printed: bool) 
                 arrivals.add(series, row)
         arrivals.end()
     except OSError as error:
-        is_broken = isinstance(error, BrokenPipeError)
-        arrivals.end(error if is_broken else Refused(f"{shown}: {error.strerror}"))
+        arrivals.end(error if isinstance(error, BrokenPipeError) else Refused(f"{shown}: {error.strerror}"))
     except BaseException as error:
         arrivals.end(error)
 
@@ -114,8 +113,11 @@ def lines_arriving(shown: str, number: int, is_printed: bool) -> Iterator[str]:
     without an end can be half a line: it is reported and left out."""
     lines, count = Lines(), 0
     while text := os.read(number, 1 << 16):
-        if is_printed:
-            print_bytes(text)
+        rest = memoryview(text if is_printed else b"")
+        with failing_at("standard output"):
+            while rest:
+                # At once, past the buffer: a thread that is stopped while it holds that one would stop the command's end.
+                rest = rest[os.write(1, rest) :]
         for line in lines.cut(text):
             count += 1
             if len(line) > LONGEST:
@@ -123,14 +125,6 @@ def lines_arriving(shown: str, number: int, is_printed: bool) -> Iterator[str]:
             yield line.decode(errors="backslashreplace")
     if lines.rest:
         note(f"{shown}: the last line has no end, and isn't drawn: {printable(lines.rest.decode(errors='backslashreplace')[:80])}")
-
-
-def print_bytes(text: bytes) -> None:
-    """Writes to standard output at once, past its buffer: a thread that is stopped while it holds that one would stop the command's end."""
-    rest = memoryview(text)
-    with failing_at("standard output"):
-        while rest:
-            rest = rest[os.write(1, rest) :]
 
 
 def rows_arriving(shown: str, lines: Iterable[str]) -> Iterator[Arrived]:

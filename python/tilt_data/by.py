@@ -139,15 +139,12 @@ def keyed(done: Done) -> Iterator[str]:
     key = f'"{done.key.replace(chr(34), chr(34) * 2)}"' if re.search(r'[",\r\n]', done.key) else done.key
     with open(done.file, encoding="ascii") as file:
         next(file, None)
-        for line in file:
-            yield f"{key},{line}"
+        yield from (f"{key},{line}" for line in file)
 
 
 def tell(refused: list[Done]) -> None:
     for done in refused:
-        key = printable(done.key)
-        print(f"{key}: {done.told.rstrip()}", file=sys.stderr)
         refusal = refusal_of(done.told, done.words)
         with contextlib.suppress(BrokenPipeError):
-            for line in refusal.lines() if refusal is not None else ():
-                print(f"{key}: {line}", file=sys.stderr)
+            for line in (done.told.rstrip(), *(refusal.lines() if refusal is not None else ())):
+                print(f"{printable(done.key)}: {line}", file=sys.stderr)

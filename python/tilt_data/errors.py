@@ -25,16 +25,13 @@ def note(text: str) -> None:
 def printable(text: str) -> str:
     """A text of data as it may be shown on a terminal: what would steer the terminal is written as an escape, as \\x1b for ESC. These are
     control characters, also tabs and line ends, separators of lines, and marks that turn the direction of writing."""
-    return text if text.isascii() and text.isprintable() else "".join(escape(sign) if steers(sign) else sign for sign in text)
 
+    def shown(sign: str) -> str:
+        category = unicodedata.category(sign)
+        steers = category in ("Cc", "Zl", "Zp", "Cs") or category == "Cf" and unicodedata.bidirectional(sign) != "BN"
+        return sign.encode("unicode_escape", "surrogatepass").decode("ascii") if steers else sign
 
-def steers(sign: str) -> bool:
-    category = unicodedata.category(sign)
-    return category in ("Cc", "Zl", "Zp", "Cs") or category == "Cf" and unicodedata.bidirectional(sign) != "BN"
-
-
-def escape(sign: str) -> str:
-    return sign.encode("unicode_escape", "surrogatepass").decode("ascii")
+    return text if text.isascii() and text.isprintable() else "".join(map(shown, text))
 
 
 def refused_at(path: str, line: int, what: str) -> Refused:

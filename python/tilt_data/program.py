@@ -75,7 +75,7 @@ class Processes:
         """Calls the program. Its output goes to `out`, of which None is that of this process, and is kept if that is a pipe. An OSError
         says why the program can't be run."""
         # These are files: a pipe would stay open as long as a child of a program that was stopped.
-        with in_memory() as told, in_memory() as printed:
+        with open(os.memfd_create("tilt-data"), "w+b") as told, open(os.memfd_create("tilt-data"), "w+b") as printed:
             with self.lock:
                 self.check()
                 place = printed if out == subprocess.PIPE else out
@@ -117,10 +117,6 @@ def call(
         return (its or Processes()).call(words, out, stdin)
     except OSError as error:
         raise Refused(f"the program can't be run: {error.strerror}") from error
-
-
-def in_memory() -> IO[bytes]:
-    return open(os.memfd_create("tilt-data"), "w+b")
 
 
 @dataclasses.dataclass(frozen=True)

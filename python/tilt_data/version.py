@@ -2,6 +2,7 @@
 package, the Debian package, releases and all that is written take it from here."""
 from __future__ import annotations
 
+import contextlib
 import hashlib
 import os
 import pathlib
@@ -19,18 +20,19 @@ DESCRIBER = TOP / "tools" / "package" / "describe"
 
 def version_lines() -> list[str]:
     """The version, the commit, the toolchain that built the program, the program's path and its SHA-256."""
-    try:
-        path = program()
-    except Refused:
-        path = None
-    digest = None if path is None else digest_of(path)
+    path = digest = None
+    with contextlib.suppress(Refused):
+        # It can be named as on the command line.
+        path = shutil.which(program()) or program()
+    with contextlib.suppress(OSError), open(path or "", "rb") as file:
+        digest = hashlib.file_digest(file, "sha256").hexdigest()
     known = described(path)
     toolchain = known.get("toolchain") if digest is not None and digest == known.get("program") else None
     return [
         f"tilt-data {VERSION}",
         f"commit: {known.get('commit', 'unknown')}",
         f"toolchain: {toolchain or 'unknown'}",
-        f"program: {'none' if path is None else printable(found(path))}",
+        f"program: {'none' if path is None else printable(path)}",
         f"sha256: {digest or 'unknown'}",
     ]
 
@@ -44,19 +46,5 @@ def described(path: str | None) -> dict[str, str]:
         return tomllib.loads(RECORD.read_text(encoding="utf-8"))
     if not os.access(DESCRIBER, os.X_OK):
         return {}
-    words = [str(DESCRIBER), *([] if path is None else [found(path)])]
+    words = [str(DESCRIBER), *([] if path is None else [path])]
     return tomllib.loads(subprocess.run(words, stdin=subprocess.DEVNULL, capture_output=True, text=True, check=True).stdout)
-
-
-def found(path: str) -> str:
-    """Where a program is that can be named as on the command line."""
-    return shutil.which(path) or path
-
-
-def digest_of(path: str) -> str | None:
-    """The SHA-256 of a program, or None if it can't be read."""
-    try:
-        with open(found(path), "rb") as file:
-            return hashlib.file_digest(file, "sha256").hexdigest()
-    except OSError:
-        return None
