@@ -15,19 +15,8 @@ from typing import Any, Iterator
 from .errors import Refused, note, printable
 
 # The module of each command. A call loads that of its own alone.
-COMMANDS = {
-    "series": "readings",
-    "table": "table",
-    "run": "why",
-    "why": "why",
-    "ticks": "ticks",
-    "by": "by",
-    "scale": "scaling",
-    "follow": "follow",
-    "plot": "plotting",
-    "view": "view",
-    "serve": "serve",
-}
+COMMANDS = {"series": "readings", "table": "table", "run": "why", "why": "why", "ticks": "ticks", "by": "by", "scale": "scaling"}
+COMMANDS |= {"follow": "follow", "plot": "plotting", "view": "view", "serve": "serve"}
 
 
 def module_of(command: str) -> Any:
@@ -35,8 +24,6 @@ def module_of(command: str) -> Any:
 
 
 class ShowVersion(argparse.Action):
-    """The option `--version`."""
-
     def __call__(self, parser: argparse.ArgumentParser, *_: Any) -> None:
         from .version import version_lines
 
@@ -46,15 +33,12 @@ class ShowVersion(argparse.Action):
 
 def parser_of(command: str | None = None) -> argparse.ArgumentParser:
     """The parser of all commands, or of one."""
-    parser = argparse.ArgumentParser(
-        prog="tilt-data", description="From a file of readings to series of tilt, and from its output to tables and pictures."
-    )
-    parser.add_argument(
-        "--version", action=ShowVersion, nargs=0, help="print the version, the commit, the toolchain, and the program with its SHA-256"
-    )
+    description = "From a file of readings to series of tilt, and from its output to tables and pictures."
+    parser = argparse.ArgumentParser(prog="tilt-data", description=description)
+    version = "print the version, the commit, the toolchain, and the program with its SHA-256"
+    parser.add_argument("--version", action=ShowVersion, nargs=0, help=version)
     commands = parser.add_subparsers(metavar="COMMAND", required=True)
-    names = [command] if command is not None else COMMANDS
-    for module in dict.fromkeys(module_of(name) for name in names):
+    for module in dict.fromkeys(map(module_of, COMMANDS if command is None else [command])):
         module.add(commands)
     return parser
 

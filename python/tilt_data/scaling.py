@@ -55,12 +55,9 @@ def add(commands: Any) -> None:
     parser.add_argument("binds", nargs="*", metavar="NAME=FILES", help="the series files of an input, with {key}, * and ?")
     parser.add_argument("--out", metavar="FOLDER", required=True, help="the folder of the outputs, and of what is kept of a call")
     parser.add_argument("--workers", type=int, metavar="N", help="how many parts run at a time on this machine (one for each processor)")
-    parser.add_argument(
-        "--scheduler",
-        metavar="ADDRESS",
-        help="run the parts on the workers of this Dask scheduler, such as "
-        "tls://host:8786; anyone who reaches a tcp:// address can run code on its workers",
-    )
+    address = "run the parts on the workers of this Dask scheduler, such as tls://host:8786"
+    danger = "anyone who reaches a tcp:// address can run code on its workers"
+    parser.add_argument("--scheduler", metavar="ADDRESS", help=f"{address}; {danger}")
     parser.add_argument("--part-rows", type=int, metavar="N", default=PART_ROWS, help=f"about how many rows a part has ({PART_ROWS})")
     parser.add_argument("--retries", type=int, metavar="N", default=3, help="how often a task that fails is started again (3)")
     parser.add_argument("--index", metavar="FOLDER", help="where the index of the files is kept, which other calls can share (OUT/index)")
@@ -91,19 +88,16 @@ class Scaled:
         kept = f", of which {self.parts - self.made} were there" if self.made < self.parts else ""
         yield f"{self.parts} parts{kept}; {'about ' if self.about else ''}{self.rows} rows read; the call took {self.seconds:.1f} s"
         if self.made and self.workers:
-            yield self.shares()
+            # How the workers spent the time of the call.
+            time = self.workers * self.seconds
+            program, files = self.program_seconds / time, (self.task_seconds - self.program_seconds) / time
+            rest = max(0, 1 - program - files)
+            yield f"of the workers' time: the program {program:.0%}, reading and writing {files:.0%}, waiting {rest:.0%}"
         if self.again:
             yield f"tasks that failed and were started again: {self.again}"
         yield from list(self.outputs.values())[:most]
         if len(self.outputs) > most:
             yield f"and {len(self.outputs) - most} more"
-
-    def shares(self) -> str:
-        """How the workers spent the time of the call."""
-        time = self.workers * self.seconds
-        program, files = self.program_seconds / time, (self.task_seconds - self.program_seconds) / time
-        rest = max(0, 1 - program - files)
-        return f"of the workers' time: the program {program:.0%}, reading and writing {files:.0%}, waiting {rest:.0%}"
 
 
 # The files
@@ -580,10 +574,8 @@ def scale(
             raise Refused(f"{name}: {least} or more was expected")
     if scheduler is not None:
         engine.imported()
-    named = {
-        name: [os.fspath(files)] if isinstance(files, (str, os.PathLike)) else [os.fspath(one) for one in files]
-        for name, files in inputs.items()
-    }
+    listed = {name: [files] if isinstance(files, (str, os.PathLike)) else files for name, files in inputs.items()}
+    named = {name: [os.fspath(one) for one in files] for name, files in listed.items()}
     plan = Plan(query if isinstance(query, Query) else Query(query), named, os.fspath(out), index)
     with locked(plan.out, "scale"), contextlib.ExitStack() as stack:
         sweep_parts(plan.out)
@@ -603,17 +595,7 @@ def main(words: argparse.Namespace) -> int:
         raise Refused("--workers is for this machine: the scheduler has its own workers")
     # What Dask leaves open as its client goes isn't for the reader of a command.
     logging.getLogger("asyncio").setLevel(logging.CRITICAL)
-    scaled = scale(
-        pathlib.Path(words.query),
-        bound(words.binds),
-        words.out,
-        scheduler=words.scheduler,
-        workers=words.workers,
-        part_rows=words.part_rows,
-        retries=words.retries,
-        index=words.index,
-        progress=True,
-    )
-    for line in scaled.told():
+    options: Any = {name: getattr(words, name) for name in ("scheduler", "workers", "part_rows", "retries", "index")}
+    for line in scale(pathlib.Path(words.query), bound(words.binds), words.out, progress=True, **options).told():
         note(line)
     return 0
