@@ -53,8 +53,8 @@ class RunOptions(Options, total=False):
 
 # Those that aren't of a convention.
 ARGUMENTS = tuple(name for name in RunOptions.__annotations__ if name not in Options.__annotations__)
-# Takes the rows of an input.
-Take = Callable[[str, Iterable[RowArrays]], None]
+# The rows of each input that is a Series, many at a time.
+Rows = Iterator[tuple[str, Iterator[RowArrays]]]
 # The moments that pandas has.
 FIRST, LAST = -(2**63) + 1, 2**63 - 1
 
@@ -107,7 +107,9 @@ class Query:
         named = {**frame_inputs(data, self.inputs), **named}
         with scratch() as folder:
             taken = Inputs(folder, over_of(self.text))
-            shape, scale = bind(self.inputs, named, convention, taken.take)
+            shape, scale, rows_of = bind(self.inputs, named, convention)
+            for name, parts in rows_of:
+                taken.take(name, parts)
             taken.files |= parted(named)[0]
             if len(taken.extents) == len(taken.files):
                 self.warn_of_scale(convention, scale)
@@ -122,7 +124,7 @@ class Query:
         if taken.over is None:
             return None
         if over == "data":
-            files = [extent_of(file) for name, file in taken.files.items() if name not in taken.extents]
+            files = [Extent.of(arrays_in(file)) for name, file in taken.files.items() if name not in taken.extents]
             edges = needed_edges([*taken.extents.values(), *files], "over='data': ")
             return taken.over.moved(self.text, *taken.over.around(*edges))
         if over is None:
@@ -249,15 +251,8 @@ def span(
     named = {**frame_inputs(frame, [] if frame is None else list(frame.columns)), **(inputs or {})}
     # Of a value counts only whether it is there.
     there = {name: one.notna().map({True: 1}) if isinstance(one, pandas.Series) else one for name, one in named.items()}
-    extents: dict[str, Extent] = {}
-
-    def note(name: str, parts: Iterable[RowArrays]) -> None:
-        extents[name] = extent = Extent()
-        for part in parts:
-            extent.add(part)
-
-    bind(list(there), there, convention, note)
-    return needed_edges([*extents.values(), *map(extent_of, parted(there)[0].values())])
+    rows = [Extent.of(parts) for _, parts in bind(list(there), there, convention)[2]]
+    return needed_edges([*rows, *(Extent.of(arrays_in(file)) for file in parted(there)[0].values())])
 
 
 def series(
@@ -285,13 +280,11 @@ def series(
 
 def write_series(outputs: Outputs, named: dict[str, Any], paths: Mapping[str, str], convention: Convention) -> None:
     """Writes the Series among some inputs, which have one clock, to files with their notes."""
-
-    def take(name: str, parts: Iterable[RowArrays]) -> None:
+    shape, scale, rows = bind(list(named), named, dataclasses.replace(convention, scales="differ", output_scale=1))
+    for name, parts in rows:
         outputs.write(paths[name], HEADER_LINE.decode())
         for part in parts:
             outputs.write(paths[name], part.text().decode())
-
-    shape, scale = bind(list(named), named, dataclasses.replace(convention, scales="differ", output_scale=1), take)
     zone = getattr(shape.zone, "key", None) or getattr(shape.zone, "zone", None)
     for name, one in parted(named)[1].items():
         kind = "event" if convention.is_event(name) and closed_in(name, one.index) is None else "hold"
@@ -467,8 +460,8 @@ class Shape:
         return times if self.zone is None else times.tz_localize("UTC").tz_convert(self.zone)
 
 
-def bind(names: list[str], named: dict[str, Any], convention: Convention, take: Take) -> tuple[Shape, int]:
-    """Hands over the rows of each Series on one clock. How the output is shown, and the scale of the Series."""
+def bind(names: list[str], named: dict[str, Any], convention: Convention) -> tuple[Shape, int, Rows]:
+    """How the output is shown, the scale of the Series, and the rows of each Series on one clock."""
     missing = [name for name in names if name not in named]
     other = [name for name in named if name not in names]
     if missing or other:
@@ -477,10 +470,9 @@ def bind(names: list[str], named: dict[str, Any], convention: Convention, take: 
     convention.check_names(names)
     files, series = parted(named)
     clock, scale = shape_of(files, series, convention)
-    for name, one in series.items():
-        take(name, arrays_of(name, one, clock, convention, convention.scale_of(name) or scale))
+    rows = ((name, arrays_of(name, one, clock, convention, convention.scale_of(name) or scale)) for name, one in series.items())
     zone = next((zone_in(one.index) for one in series.values()), None)
-    return Shape(clock, zone, int(convention.output_scale or scale)), scale
+    return Shape(clock, zone, int(convention.output_scale or scale)), scale, rows
 
 
 @dataclasses.dataclass
@@ -502,14 +494,6 @@ class Inputs:
                 yield part.text()
 
         self.files[name] = sessions.put_rows(self.folder, name, texts())
-
-
-def extent_of(file: str) -> Extent:
-    """How far the rows of a file reach."""
-    extent = Extent()
-    for part in arrays_in(file):
-        extent.add(part)
-    return extent
 
 
 def parted(named: Mapping[str, Any]) -> tuple[dict[str, str], dict[str, Any]]:

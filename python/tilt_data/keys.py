@@ -80,7 +80,7 @@ class Batches:
             self.extents.setdefault(name, Extent(self.over)).add(one)
         start, end = self.over.start, self.over.end
         if self.by_data:
-            edges = edges_of(Extent.of(one) for one in rows.values())
+            edges = edges_of(Extent.of([one]) for one in rows.values())
             if edges is None:
                 raise Alone
             start, end = self.over.around(*edges)

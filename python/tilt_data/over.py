@@ -64,9 +64,10 @@ class Extent:
     last: int | None = None
 
     @staticmethod
-    def of(part: RowArrays) -> Extent:
+    def of(parts: Iterable[RowArrays]) -> Extent:
         extent = Extent()
-        extent.add(part)
+        for part in parts:
+            extent.add(part)
         return extent
 
     def add(self, part: RowArrays) -> None:
