@@ -29,7 +29,7 @@ import re
 import select
 import sys
 import time
-from typing import IO, Any, Iterator, NoReturn
+from typing import IO, Any, Iterator
 
 from . import sessions
 from .clock import TIMES, WHOLE, Moments, duration_of, zone_of
@@ -57,6 +57,7 @@ QUIET_LINES, QUIET_SECONDS = 100, 60.0
 # The names of the files that are written here and aren't needed any more after the session that they are of.
 PASSING = re.compile(r"(part|notes|state|log)\.(begin|end|-?[0-9]+)|new\.(part|notes|state)\.[0-9]+|rows\.[A-Za-z_]\w*\.csv", re.ASCII)
 STATE = re.compile(r"state\.(end|-?[0-9]+)")
+AGAIN = "with --again the input must start with the same first line; put rotated lines in front of it, or name another --state"
 
 
 def add(commands: Any) -> None:
@@ -325,38 +326,16 @@ class Chain:
             return Chain(kept["lines"], known=kept["lines"] == 0)
         return Chain(kept["lines"], bytes.fromhex(chain["digest"]), {int(count): digest for count, digest in chain["marks"].items()})
 
-
-class Passing:
-    """Passes over the lines that were taken before, of an input that starts with its first line again, and compares them."""
-
-    def __init__(self, taken: Chain, state: str) -> None:
-        self.taken, self.state = taken, state
-        self.left = taken.count
-        self.seen = Chain()
-
-    def rest(self, lines: list[bytes]) -> list[bytes]:
-        """The lines that come after those taken before."""
-        taken, seen = self.taken, self.seen
-        passed = lines[: self.left]
-        self.left -= len(passed)
-        for line in passed:
+    def compare(self, seen: Chain, lines: list[bytes], state: str) -> None:
+        """Rejects lines that were taken before and come again, after those that were `seen`, if they differ."""
+        for line in lines:
             seen.add(line)
-            is_last = seen.count == taken.count
-            if taken.known and seen.digest.hex() != (taken.digest.hex() if is_last else taken.marks.get(seen.count, seen.digest.hex())):
+            wanted = self.digest.hex() if seen.count == self.count else self.marks.get(seen.count)
+            if self.known and wanted not in (None, seen.digest.hex()):
                 what = "the first line isn't" if seen.count == 1 else f"the first {seen.count} lines aren't"
-                self.reject(f"{what} what {self.state} took before")
-        if passed and not self.left:
-            taken.digest, taken.marks, taken.known = seen.digest, seen.marks, True
-        return lines[len(passed) :]
-
-    def finish(self) -> None:
-        """Rejects an input that has ended before the last line that was taken before."""
-        if self.left:
-            self.reject(f"the input ended after {self.seen.count} lines, and {self.state} took {self.taken.count} before")
-
-    def reject(self, what: str) -> NoReturn:
-        cure = "with --again the input must start with the same first line; put rotated lines in front of it, or name another --state"
-        raise Refused(f"{what}: {cure}")
+                raise Refused(f"{what} what {state} took before: {AGAIN}")
+        if lines and seen.count == self.count:
+            self.digest, self.marks, self.known = seen.digest, seen.marks, True
 
 
 # The folder
@@ -679,13 +658,16 @@ class Follower:
 
     def follow(self, number: int) -> None:
         """Takes what comes on a descriptor until its end, or that of the query's output."""
-        passing = Passing(self.chain, self.words.state) if self.words.again else None
-        if passing is not None and not self.chain.known:
+        chain, state, seen = self.chain, self.words.state, Chain()
+        taken = left = chain.count if self.words.again else 0
+        if left and not chain.known:
             what = "which kept no digest of the lines that it took: make sure that the input starts with the same first line"
-            note(f"{self.words.state} is of an earlier version, {what}")
+            note(f"{state} is of an earlier version, {what}")
         due = time.monotonic() + self.every
         for lines in chunks(number, lambda: due, self.words.end):
-            lines = lines if passing is None else passing.rest(lines)
+            passed, lines = lines[:left], lines[left:]
+            left -= len(passed)
+            chain.compare(seen, passed, state)
             while not self.ended:
                 most = len(lines) if self.words.rows is None else max(1, self.words.rows - self.fresh)
                 some, lines = lines[:most], lines[most:]
@@ -702,8 +684,8 @@ class Follower:
                     break
             if self.ended:
                 return
-        if passing is not None:
-            passing.finish()
+        if left:
+            raise Refused(f"the input ended after {seen.count} lines, and {state} took {taken} before: {AGAIN}")
 
 
 class Lines:
