@@ -67,18 +67,6 @@ def zone_of(name: str | None) -> zoneinfo.ZoneInfo | None:
         raise Refused(f"{name!r} is no time zone: a name as Europe/Zurich or America/New_York") from error
 
 
-def local_moment(local: datetime.datetime, zone: zoneinfo.ZoneInfo | None) -> int:
-    """The moment of a local time. Without an offset and a zone it is UTC. A time that the zone has twice or not at all is refused."""
-    shift = datetime.timedelta()
-    if local.tzinfo is not None:
-        local = local.astimezone(datetime.timezone.utc).replace(tzinfo=None)
-    elif zone is not None:
-        shift = local.replace(tzinfo=zone).utcoffset() or shift
-        if local.replace(tzinfo=zone, fold=1).utcoffset() != shift:
-            raise ValueError(f"the zone {zone.key} has this time twice or not at all: write it with its offset, as +01:00")
-    return (local - EPOCH - shift) // datetime.timedelta(microseconds=1) * 1000
-
-
 class Moments:
     """Reads the times of one column: ISO 8601, or numbers of a unit since 1970. What it can't read is a ValueError that says what it
     expected. Times without an offset are in the zone, or UTC where there is none."""
@@ -92,20 +80,16 @@ class Moments:
         return self.number(text) if self.unit else self.iso(text)
 
     def number(self, text: str) -> int:
+        if text.isascii() and text.isdigit() and len(text) < 30:
+            return int(text) * self.unit
+        plain = text.strip(BLANKS)
         try:
-            if text.isascii() and text.isdigit() and len(text) < 30:
-                return int(text) * self.unit
-            return int(self.exact(text.strip(BLANKS)))
-        except (decimal.DecimalException, ValueError) as error:
-            raise ValueError(f"{text!r} is no time: a number was expected, no finer than a nanosecond") from error
-
-    def exact(self, text: str) -> decimal.Decimal:
-        if DECIMAL.fullmatch(text) is None:
-            raise ValueError
-        moment = EXACT.multiply(decimal.Decimal(text), decimal.Decimal(self.unit))
-        if moment != moment.to_integral_value() or moment.copy_abs() > FARTHEST:
-            raise ValueError
-        return moment
+            moment = EXACT.multiply(decimal.Decimal(plain), decimal.Decimal(self.unit)) if DECIMAL.fullmatch(plain) else None
+            if moment is not None and moment == moment.to_integral_value() and moment.copy_abs() <= FARTHEST:
+                return int(moment)
+        except decimal.DecimalException:
+            pass
+        raise ValueError(f"{text!r} is no time: a number was expected, no finer than a nanosecond")
 
     def iso(self, text: str) -> int:
         found = ISO.fullmatch(text.strip(BLANKS))
@@ -115,22 +99,29 @@ class Moments:
         date, minute, second, fraction, offset = found.groups()
         if second is not None and int(second) > 59 or fraction is not None and len(fraction.rstrip("0")) > 9:
             raise ValueError(f"{text!r} is no time: seconds go to 59, and nothing is finer than a nanosecond")
+        # Minutes are worked out once: most readings share theirs with others.
         place = date, minute, offset
         if place not in self.known:
-            self.keep(place, text)
+            if len(self.known) > 50000:
+                self.known.clear()
+            self.known[place] = self.minute(f"{date}T{minute or '00:00'}{(offset or '').upper()}", text)
         return self.known[place] + int(second or 0) * 10**9 + int((fraction or "0").rstrip("0").ljust(9, "0") or 0)
 
-    def keep(self, place: tuple[str, str | None, str | None], text: str) -> None:
-        """Minutes are worked out once: most readings share theirs with others."""
-        date, minute, offset = place
+    def minute(self, minute: str, text: str) -> int:
+        """The moment of a minute. Without an offset and a zone it is UTC. One that the zone has twice or not at all is refused."""
         try:
-            local = datetime.datetime.fromisoformat(f"{date}T{minute or '00:00'}{(offset or '').upper()}")
+            local = datetime.datetime.fromisoformat(minute)
         except ValueError as error:
             raise ValueError(f"{text!r} is no time: there is no such day or minute") from error
-        if len(self.known) > 50000:
-            self.known.clear()
+        shift = datetime.timedelta()
         try:
-            self.known[place] = local_moment(local, self.zone)
+            if local.tzinfo is not None:
+                local = local.astimezone(datetime.timezone.utc).replace(tzinfo=None)
+            elif self.zone is not None:
+                shift = local.replace(tzinfo=self.zone).utcoffset() or shift
+                if local.replace(tzinfo=self.zone, fold=1).utcoffset() != shift:
+                    raise ValueError(f"the zone {self.zone.key} has this time twice or not at all: write it with its offset, as +01:00")
+            return (local - EPOCH - shift) // datetime.timedelta(microseconds=1) * 1000
         except OverflowError as error:
             raise ValueError(f"{text!r} is no time: with its offset it lies outside of the years 1 to 9999") from error
 

@@ -1,6 +1,7 @@
 """Decimals as whole numbers: a value is stored as the value times a scale. Nothing is rounded: digits that the scale loses are refused."""
 from __future__ import annotations
 
+import contextlib
 import decimal
 import functools
 import re
@@ -24,26 +25,18 @@ def scale_of(text: str) -> int:
 
 def digits_after_point(text: str) -> int:
     """How many digits a decimal needs after its point; 0 for a text that is no number. More than 19 are a ValueError."""
-    count = digits_needed(text)
+    plain, count = text.strip(BLANKS), 0
+    if DECIMAL.fullmatch(plain) is not None and "e" not in plain and "E" not in plain:
+        count = len(plain.partition(".")[2].rstrip("0"))
+    elif DECIMAL.fullmatch(plain) is not None:
+        with contextlib.suppress(decimal.DecimalException):
+            _, digits, exponent = decimal.Decimal(plain).as_tuple()
+            shown = "".join(map(str, digits))
+            count = max(0, -int(exponent) - (len(shown) - len(shown.rstrip("0")))) if shown.strip("0") else 0
     if count > MOST_DIGITS:
-        raise ValueError(
-            f"{text!r} needs {count} digits after its point, and a 64-bit value has {MOST_DIGITS}: round it, or name a " "--scale"
-        )
+        cure = "round it, or name a --scale"
+        raise ValueError(f"{text!r} needs {count} digits after its point, and a 64-bit value has {MOST_DIGITS}: {cure}")
     return count
-
-
-def digits_needed(text: str) -> int:
-    text = text.strip(BLANKS)
-    if DECIMAL.fullmatch(text) is None:
-        return 0
-    if "e" not in text and "E" not in text:
-        return len(text.partition(".")[2].rstrip("0"))
-    try:
-        _, digits, exponent = decimal.Decimal(text).as_tuple()
-    except decimal.DecimalException:
-        return 0
-    shown = "".join(map(str, digits))
-    return max(0, -int(exponent) - (len(shown) - len(shown.rstrip("0")))) if shown.strip("0") else 0
 
 
 class Scale:
