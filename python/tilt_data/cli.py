@@ -32,7 +32,6 @@ class ShowVersion(argparse.Action):
 
 
 def parser_of(command: str | None = None) -> argparse.ArgumentParser:
-    """The parser of all commands, or of one."""
     description = "From a file of readings to series of tilt, and from its output to tables and pictures."
     parser = argparse.ArgumentParser(prog="tilt-data", description=description)
     version = "print the version, the commit, the toolchain, and the program with its SHA-256"

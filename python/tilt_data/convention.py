@@ -114,7 +114,6 @@ class Convention:
         return None if scale == "auto" else int(scale)
 
     def rule(self, name: str, clock: Clock) -> Rule:
-        """The convention of an input."""
         age = of_input(self.max_age, name, None)
         held = None if age is None or self.is_event(name) else clock.ticks(duration_of(age), self.shown("max_age"))
         return Rule(not self.is_event(name), held, self.ties)
@@ -161,7 +160,6 @@ class TextConvention(Convention):
 
     @classmethod
     def of(cls, words: argparse.Namespace) -> TextConvention:
-        """The convention that the options give."""
         if words.event and (words.hold or words.max_age or words.until):
             raise Refused("--event is a reading of one tick: --hold, --max-age and --until are for readings that hold")
         like = None if words.like is None else notes_of_like(words.like)
@@ -181,7 +179,6 @@ class TextConvention(Convention):
         return f"{option} {name}=.." if name else option
 
     def is_missing(self, text: str) -> bool:
-        """Whether a text means that there is no value."""
         return not text or text in self.null or not text.strip()
 
     def scale_of(self, name: str) -> int | None:
@@ -276,7 +273,6 @@ def named_once(option: str, words: list[str]) -> dict[str, str]:
 
 
 def spelled_all(option: str, given: Mapping[str, Any]) -> str | None:
-    """The arguments of an option that is given for several names."""
     return f" {option} ".join(f"{name}={given[name]}" if name else f"{given[name]}" for name in sorted(given)) or None
 
 
@@ -299,7 +295,6 @@ def check_flag(name: str, value: Any) -> None:
 
 
 def duration_read(name: str, value: Any) -> int:
-    """The nanoseconds of an argument that is a duration."""
     try:
         return duration_of(value)
     except (Refused, AttributeError, TypeError) as error:
@@ -308,7 +303,6 @@ def duration_read(name: str, value: Any) -> int:
 
 
 def moment_read(name: str, value: Time) -> int:
-    """The moment of an argument that is a time."""
     try:
         return Moments().iso(str(value))
     except ValueError as error:

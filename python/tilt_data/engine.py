@@ -16,6 +16,8 @@ from .program import Processes
 from .tasks import Made
 
 Function = Callable[..., Made]
+# Takes the argument of a call and what was made.
+Taking = Callable[[Any, Made], None]
 MISSING = (
     "{0} isn't installed, which --scheduler needs: `apt-get install python3-dask python3-distributed`, or "
     "`pip install 'dask[distributed]'`"
@@ -42,13 +44,13 @@ class Engine:
 
     def __init__(self, workers: int, retries: int) -> None:
         self.most, self.retries = workers, retries
-        self.begun: dict[Any, tuple[str, Function, Any]] = {}
+        self.begun: dict[Any, tuple[str, Function, Any, Taking]] = {}
+        self.seconds = 0.0
         self.failures: collections.Counter[str] = collections.Counter()
         self.pool = concurrent.futures.ThreadPoolExecutor(max(1, workers))
         self.processes = Processes()
 
     def submit(self, function: Function, argument: Any) -> Any:
-        """The future of a call that is started now."""
         return self.pool.submit(function, argument, self.processes)
 
     def wait(self) -> Any:
@@ -63,31 +65,32 @@ class Engine:
         """Raises a Refused if no worker can be reached any more."""
 
     def stop(self) -> None:
-        """Gives up what is under way."""
         self.processes.stop()
 
     def close(self) -> None:
         """Lets the workers go, once nothing is under way."""
         self.pool.shutdown(wait=True, cancel_futures=True)
 
-    def begin(self, name: str, function: Function, argument: Any) -> None:
-        """Starts a call. A name belongs to one call, and says in an error which one it was."""
-        self.begun[self.submit(function, argument)] = name, function, argument
+    def begin(self, name: str, function: Function, argument: Any, take: Taking) -> None:
+        """Starts a call, whose result is taken at its end. A name belongs to one call, and says in an error which one it was."""
+        self.begun[self.submit(function, argument)] = name, function, argument, take
 
-    def ended(self) -> tuple[Any, Made]:
-        """The argument and the result of the next call that ends."""
+    def take_next(self) -> None:
+        """Waits until a call ends, and takes its result."""
         while True:
             future = self.wait()
-            name, function, argument = self.begun.pop(future)
+            name, function, argument, take = self.begun.pop(future)
             try:
                 made: Made = future.result()
-                return argument, made
+                break
             except Exception as error:
                 self.failures[name] += 1
                 self.check_alive()
                 if self.failures[name] > self.retries:
                     raise Refused(f"{name} failed {self.failures[name]} times: {cause_of(error)}") from error
-            self.begin(name, function, argument)
+            self.begin(name, function, argument, take)
+        self.seconds += made.seconds
+        take(argument, made)
 
 
 class Cluster(Engine):

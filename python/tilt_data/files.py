@@ -341,7 +341,6 @@ def locked(folder: str, command: str) -> IO[str]:
 
 
 def sync(path: str) -> None:
-    """Brings a file or a folder to the disk."""
     number = os.open(path or ".", os.O_RDONLY)
     try:
         os.fsync(number)

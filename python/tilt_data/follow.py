@@ -150,8 +150,6 @@ class Source:
 
 
 class Reader:
-    """Makes rows of lines."""
-
     def __init__(self, words: argparse.Namespace, sources: dict[str, Source]) -> None:
         self.words, self.sources = words, sources
         self.moments = Moments(words.unit, zone_of(words.zone))
@@ -232,7 +230,6 @@ class Reader:
             raise BadLine(f"its row would not lie within {-TIMES} to {TIMES} ticks")
 
     def finish(self) -> None:
-        """The readings that are held back become rows."""
         for source in self.sources.values():
             row = None if source.converter is None else source.converter.finish(self.until)
             source.rows += [] if row is None else [row]
@@ -242,7 +239,6 @@ class Reader:
         return self.convention.arguments() if any(source.converter is not None for source in self.sources.values()) else None
 
     def check(self, state: str, kept: Taken) -> None:
-        """Rejects options that differ from those kept."""
         words, options = self.words, self.convention.arguments()
         of_like = {"--tick": words.tick, "--origin": words.origin, "--closed": words.closed, "--scale": words.scale}
         for option in {**kept, **options}:
@@ -288,7 +284,6 @@ def shown(line: bytes, most: int | None = None) -> str:
 
 
 def number(text: str, least: int, greatest: int, what: str) -> int:
-    """A whole number that the program takes."""
     # Python doesn't read thousands of digits.
     found = int(text) if len(text) < 4000 else greatest + 1
     if not least <= found <= greatest:
@@ -428,7 +423,6 @@ class Store:
                 rest = rest[self.log.write(rest) :]
 
     def reject(self, text: str) -> None:
-        """Puts a line to the end of the rejected ones."""
         with failing_at(self.rejected), open(self.rejected, "a", encoding="utf-8", newline="") as file:
             file.write(text)
 
@@ -464,8 +458,6 @@ class Store:
 
 
 class Follower:
-    """Takes lines, and runs sessions over them."""
-
     def __init__(self, words: argparse.Namespace) -> None:
         self.words = words
         self.store = Store(words.state)
@@ -620,7 +612,6 @@ class Follower:
                 out.write(part.decode("ascii"))
 
     def end(self) -> None:
-        """The last session, over all that is left."""
         self.reader.finish()
         self.hand_on(None)
         self.ended = True

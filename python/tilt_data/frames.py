@@ -162,7 +162,6 @@ class Query:
         return self.by_runs(data, by, look, convention, named)
 
     def by_runs(self, data: Any, by: str, look: Look, convention: Convention, named: dict[str, Any]) -> pandas.DataFrame:
-        """One run for each key, one after another."""
         import pandas
 
         options: Any = {**dataclasses.asdict(look), "key_origin": "shared", "convention": convention, "inputs": named}
@@ -203,7 +202,6 @@ class Query:
         return shape.keyed(keys, [output.moved(shift) for output, shift in zip(outputs, shifts)], look)
 
     def run_over(self, folder: str, own: Over, rows: dict[str, RowArrays], over: tuple[int, int]) -> RowArrays:
-        """What the query gives over other ticks."""
         taken = Inputs(folder, None)
         for name, one in rows.items():
             taken.take(name, one.blocks())
@@ -295,7 +293,6 @@ def write_series(outputs: Outputs, named: dict[str, Any], paths: Mapping[str, st
 
 
 def needed_edges(extents: list[Extent], option: str = "") -> tuple[int, int]:
-    """The ticks over which inputs have rows."""
     edges = edges_of(extents)
     if edges is None:
         raise Refused(f"{option}the inputs have no readings, and no span")
@@ -362,7 +359,6 @@ def frame_inputs(data: Any, names: list[str]) -> dict[str, Any]:
 
 
 def moments_of(index: Any, what: str) -> Any:
-    """The nanoseconds of a DatetimeIndex, as an array."""
     import pandas
 
     if not isinstance(index, pandas.DatetimeIndex):
@@ -413,14 +409,12 @@ class Shape:
     scale: int
 
     def frame(self, rows: RowArrays, look: Look | None = None) -> pandas.DataFrame:
-        """The rows as a DataFrame with the column `value`."""
         import pandas
 
         look = look or Look()
         return pandas.DataFrame({"value": rows.shown(self.scale, look.exact)}, index=self.index(rows.starts, rows.ends, look))
 
     def index(self, starts: Any, ends: Any, look: Look) -> Any:
-        """The index of rows with these starts and ends."""
         import pandas
 
         if look.index != "interval":
@@ -447,7 +441,6 @@ class Shape:
         return pandas.DataFrame({"value": rows.shown(self.scale, look.exact)}, index=index)
 
     def times(self, ticks: Any) -> pandas.DatetimeIndex:
-        """The times of ticks."""
         import numpy
         import pandas
 
@@ -485,7 +478,6 @@ class Inputs:
     extents: dict[str, Extent] = dataclasses.field(default_factory=dict)
 
     def take(self, name: str, parts: Iterable[RowArrays]) -> None:
-        """Writes the rows of a Series."""
         self.extents[name] = extent = Extent(self.over)
 
         def texts() -> Iterator[bytes]:
@@ -509,7 +501,6 @@ def parted(named: Mapping[str, Any]) -> tuple[dict[str, str], dict[str, Any]]:
 
 
 def zone_in(index: Any) -> Any:
-    """The zone of times or of intervals."""
     return getattr(getattr(index, "left", index), "tz", None)
 
 

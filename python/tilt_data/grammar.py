@@ -45,7 +45,6 @@ class Statement:
 
 
 def statements_of(text: bytes) -> list[Statement]:
-    """The statements of a query that the grammar has."""
     parts: list[list[Token]] = []
     is_new = True
     for token in tokens_of(text):
@@ -157,7 +156,6 @@ class Reader:
         return statement
 
     def domain(self, statement: Statement) -> None:
-        """The span and the grid."""
         if self.takes("over"):
             self.take("(", " after `over`")
             statement.bounds.append(self.bound())

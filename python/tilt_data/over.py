@@ -71,7 +71,6 @@ class Extent:
         return extent
 
     def add(self, part: RowArrays) -> None:
-        """Counts some rows."""
         if not len(part):
             return
         first, last = int(part.starts.min()), int(part.ends.max())

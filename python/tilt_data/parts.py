@@ -37,7 +37,6 @@ class Domain(Over):
 
     @staticmethod
     def of(text: str) -> Domain:
-        """The domain of a query that the program takes."""
         over = over_in(text)
         # A minus before a bound is a token more: a statement that has all that it may have can't take it.
         tokens = tokens_of(text.encode())

@@ -150,7 +150,6 @@ def draw_legend(axes: Any, entries: list[tuple[Any, str]]) -> None:
 
 
 def draw(picture: Picture) -> Any:
-    """The figure; matplotlib is there."""
     # `pyplot` would keep the figure, and has a backend that is the caller's.
     from matplotlib.figure import Figure
 
@@ -249,7 +248,6 @@ def files_drawn(what: Mapping[str, Shown], like: str | None, convention: Convent
 
 
 def column_of(name: str, one: Any) -> Any:
-    """A Series, or the one column of a DataFrame."""
     if getattr(one, "ndim", None) == 2 and len(one.columns) == 1:
         return one[one.columns[0]]
     if getattr(one, "ndim", None) != 1:

@@ -213,7 +213,6 @@ class Converting:
             raise refused_at(self.path, line, f"{name}: {error}{cure}") from error
 
     def new(self, one: Reading) -> Written:
-        """The series of a reading, which is its first one."""
         moment, line, key, name, _ = one
         try:
             self.clock = self.clock or self.convention.clock(moment)
@@ -253,7 +252,6 @@ class Converting:
         return path
 
     def beyond(self, line: int, moment: int, what: str) -> Refused:
-        """The error of a reading whose row the program doesn't take."""
         cure = "name a nearer --origin, or take a longer --tick"
         return refused_at(self.path, line, f"the reading at {time_text(moment)} has {what}, and ticks go from {-TIMES} to {TIMES}: {cure}")
 

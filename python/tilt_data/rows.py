@@ -48,7 +48,6 @@ class RowArrays:
 
     @staticmethod
     def joined(parts: Iterable[RowArrays]) -> RowArrays:
-        """The rows of several arrays, one after another."""
         import numpy
 
         there = [part for part in parts if len(part)] or [RowArrays.of([])]
@@ -61,11 +60,9 @@ class RowArrays:
         return RowArrays(starts, ends, values, numpy.concatenate(known))
 
     def some(self, places: Any) -> RowArrays:
-        """The rows at some places, or of a slice."""
         return RowArrays(self.starts[places], self.ends[places], self.values[places], None if self.known is None else self.known[places])
 
     def blocks(self) -> Iterator[RowArrays]:
-        """The rows, some at a time."""
         return (self.some(slice(at, at + AT_ONCE)) for at in range(0, len(self), AT_ONCE))
 
     def moved(self, ticks: int) -> RowArrays:
@@ -191,7 +188,6 @@ def rows_ended(converter: Converter, moment: int, starts: Any, values: Any, know
 
 
 def arrays_in(path: str) -> Iterator[RowArrays]:
-    """The rows of a file, as `files.rows_in` has them."""
     rows = rows_in(path)
     while some := list(itertools.islice(rows, AT_ONCE)):
         yield RowArrays.of(some)

@@ -143,7 +143,6 @@ def files_of(inputs: Mapping[str, Sequence[str]]) -> dict[str, dict[str, list[st
 
 
 def bound(binds: Sequence[str]) -> dict[str, list[str]]:
-    """The words NAME=FILES by their names."""
     found: dict[str, list[str]] = {}
     for word in binds:
         name, sign, pattern = word.partition("=")
@@ -226,7 +225,6 @@ class Plan:
             yield Indexing(tuple(some), self.index)
 
     def indexed(self, key: str) -> dict[str, list[Indexed]]:
-        """The indexes of the files of a key, by input."""
         if key in self.wholes:
             return self.wholes[key]
         found: dict[str, list[Indexed]] = {}
@@ -266,7 +264,6 @@ class Plan:
         return (start - need[0], end + need[1]) if need is not None else (start, start)
 
     def tasks(self, key: str) -> Iterator[Task]:
-        """The parts of a key, in order."""
         indexed = self.indexed(key)
         for part in self.domain.parts(self.cuts[key]):
             query = self.domain.query(part.start, part.end)
@@ -323,7 +320,6 @@ class Listing:
             self.outputs = {name: entry for name, entry in found.items() if os.path.basename(name) == name}
 
     def write(self) -> None:
-        """Writes what was changed."""
         if not self.changed:
             return
         self.changed, self.written = False, time.monotonic()
@@ -337,7 +333,6 @@ class Listing:
         os.replace(new, os.path.join(self.folder, "outputs.json"))
 
     def add(self, names: list[str]) -> None:
-        """Lists the outputs that a call is going to write."""
         self.changed |= any(name not in self.outputs for name in names)
         self.outputs = {**dict.fromkeys(names), **self.outputs}
         self.write()
@@ -395,10 +390,9 @@ def sweep(folder: str, age: float = 0) -> None:
 
 
 class Run:
-    """A plan that is carried out on an engine."""
-
     def __init__(self, plan: Plan, its: engine.Engine, listing: Listing, progress: bool) -> None:
         self.plan, self.engine, self.listing, self.progress = plan, its, listing, progress
+        self.counted: Bar
         self.scaled = Scaled()
         self.left: dict[str, int] = {}
         self.files: dict[str, list[tuple[Part, str]]] = {}
@@ -425,27 +419,29 @@ class Run:
         if moved:
             scaled.notes.append(f"outputs of earlier calls that aren't of this one, moved to {plan.out}/earlier: {moved}")
         scaled.again, scaled.workers = sum(self.engine.failures.values()), self.engine.most
+        scaled.task_seconds = self.engine.seconds
         return scaled
 
     def make_indexes(self) -> None:
         wanted = list(self.plan.unindexed())
         waiting = collections.deque(enumerate(wanted, 1))
-        with Bar(sum(len(one.paths) for one in wanted), "files", self.progress) as bar:
+        with Bar(sum(len(one.paths) for one in wanted), "files", self.progress) as self.counted:
             while waiting or self.engine.begun:
                 while waiting and self.engine.has_room():
                     number, indexing = waiting.popleft()
-                    self.engine.begin(f"the index {number}", tasks.make_indexes, indexing)
-                indexing, made = self.ended()
-                if made.status:
-                    raise Refused(made.line)
-                bar.step(len(indexing.paths))
+                    self.engine.begin(f"the index {number}", tasks.make_indexes, indexing, self.take_index)
+                self.engine.take_next()
+
+    def take_index(self, indexing: Indexing, made: Made) -> None:
+        if made.status:
+            raise Refused(made.line)
+        self.counted.step(len(indexing.paths))
 
     def make_parts(self) -> None:
         """Makes all parts that are missing, and the whole of each key as soon as its last part is there."""
         self.scaled.parts = sum(len(cuts) + 1 for cuts in self.plan.cuts.values())
         waiting = self.missing()
-        with Bar(self.scaled.parts, "parts", self.progress) as bar:
-            self.counted = bar
+        with Bar(self.scaled.parts, "parts", self.progress) as self.counted:
             task = next(waiting, None)
             while task is not None or self.engine.begun:
                 while task is not None and self.engine.has_room():
@@ -454,23 +450,22 @@ class Run:
                 if task is None:
                     self.begin_keys()
                 if self.engine.begun:
-                    self.take(*self.ended())
+                    self.engine.take_next()
 
     def begin(self, task: Task) -> None:
         """Starts the task of a part. If there are many keys, parts that are the whole of a key with small files wait until they are enough
         for a task."""
         if len(self.plan.files) < MANY or not self.plan.is_small(task.key):
-            self.engine.begin(name_of(task), tasks.make_part, task)
+            self.engine.begin(name_of(task), tasks.make_part, task, self.take_part)
             return
         self.small.append(task)
         if len(self.small) >= TOGETHER:
             self.begin_keys()
 
     def begin_keys(self) -> None:
-        """Starts one task for the small keys that wait."""
         if self.small:
             keys = Keys(tuple((task, self.joining(task.key)) for task in self.small))
-            self.engine.begin(f"{name_of(self.small[0])}, and {len(self.small) - 1} other keys", tasks.make_keys, keys)
+            self.engine.begin(f"{name_of(self.small[0])}, and {len(self.small) - 1} other keys", tasks.make_keys, keys, self.take_keys)
             self.small = []
 
     def joining(self, key: str) -> Joining:
@@ -500,7 +495,7 @@ class Run:
         if not self.left[key]:
             joining = self.joining(key)
             del self.left[key], self.files[key]
-            self.engine.begin(f"the whole of {key or ALONE}", tasks.make_whole, joining)
+            self.engine.begin(f"the whole of {key or ALONE}", tasks.make_whole, joining, self.take_whole)
 
     def take_keys(self, keys: Keys, made: Made) -> None:
         """Takes what a task made of small keys. What it left gets tasks of its own."""
@@ -508,13 +503,15 @@ class Run:
             self.count(task, part)
             self.counted.step()
             del self.left[task.key], self.files[task.key]
-            self.take_whole(joining)
+            self.take_whole(joining, Made())
         if time.monotonic() > self.listing.written + BETWEEN:
             self.listing.write()
         for task, _ in keys.keys[len(made.of_keys) :]:
-            self.engine.begin(name_of(task), tasks.make_part, task)
+            self.engine.begin(name_of(task), tasks.make_part, task, self.take_part)
 
-    def take_whole(self, joining: Joining) -> None:
+    def take_whole(self, joining: Joining, made: Made) -> None:
+        if made.status:
+            raise Refused(made.line)
         self.listing.note(self.plan.whole_name(joining.key), parts_digest(file for _, file in joining.parts))
         self.scaled.outputs[urllib.parse.unquote(joining.key) or ALONE] = joining.file
 
@@ -524,24 +521,11 @@ class Run:
         self.scaled.rows += part.rows
         self.scaled.program_seconds += part.program_seconds
 
-    def take(self, argument: Any, made: Made) -> None:
-        """Takes what a task of parts made."""
-        if isinstance(argument, Keys):
-            self.take_keys(argument, made)
-        elif made.status and isinstance(argument, Task):
-            raise TiltError(f"{name_of(argument)}: {made.line}", made.status, made.place)
-        elif made.status:
-            raise Refused(made.line)
-        elif isinstance(argument, Joining):
-            self.take_whole(argument)
-        else:
-            self.count(argument, made)
-            self.finish(argument.key)
-
-    def ended(self) -> tuple[Any, Made]:
-        argument, made = self.engine.ended()
-        self.scaled.task_seconds += made.seconds
-        return argument, made
+    def take_part(self, task: Task, made: Made) -> None:
+        if made.status:
+            raise TiltError(f"{name_of(task)}: {made.line}", made.status, made.place)
+        self.count(task, made)
+        self.finish(task.key)
 
 
 def name_of(task: Task) -> str:

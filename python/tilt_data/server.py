@@ -31,8 +31,6 @@ WAITING, PIECE, THREADS = 1 << 16, 1 << 16, 100
 
 
 class Server(http.server.ThreadingHTTPServer):
-    """Serves in threads of its own, until the end of a `with`."""
-
     def __init__(self, port: int, page: str, policy: str, arrivals: Arrivals) -> None:
         self.page, self.policy, self.arrivals = page.encode(), policy, arrivals
         self.token = secrets.token_urlsafe(16)

@@ -45,7 +45,6 @@ class Look:
         return "" if value is None else decimal_text(value, self.scale)
 
     def check(self, others: Iterable[Look], what: str) -> None:
-        """Rejects files on another clock."""
         if any((other.clock.tick, other.clock.origin) != (self.clock.tick, self.clock.origin) for other in others):
             raise Refused(what)
 
@@ -255,7 +254,6 @@ def mean_text(total: int, ticks: int, scale: int) -> str:
 
 
 def length_text(clock: Clock, ticks: int) -> str:
-    """A duration in seconds, with the digits of the clock."""
     digits = clock.digits
     seconds, rest = divmod(ticks * clock.tick, 10**9)
     return f"{seconds}" + (f".{rest:09d}"[: digits + 1] if digits else "")

@@ -88,7 +88,6 @@ class Joining:
 
 
 def program_digest(path: str) -> str:
-    """A digest of the program's bytes."""
     return digest_of(path, stamp_of(path))
 
 

@@ -110,7 +110,6 @@ def days_of(clock: Clock, zone: str | None, lo: int, hi: int) -> Iterator[dateti
 
 
 def day_at(moment: int, zone: str | None) -> datetime.date:
-    """The day that a zone has at a moment."""
     return datetime.date.fromisoformat(moment_text(moment, 0, zone_of(zone))[:10])
 
 

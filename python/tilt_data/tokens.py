@@ -53,7 +53,6 @@ class Faulty(Exception):
 
     @staticmethod
     def of(number: int, what: str, token: Token, expected: str, cure: str = "") -> Faulty:
-        """The fault of a statement with a number."""
         return Faulty(f"{FAULTS[what]} statement {number}: {what}", token, expected, cure)
 
 

@@ -142,7 +142,6 @@ def scaled(values: Any, known: Any, scale: int) -> Any:
 
 
 def texts_of(series: pandas.Series) -> list[str | None]:
-    """The decimal texts of the values of a Series."""
     # A Series gives its values of 32 bits as floats of 64, whose shortest text is another one.
     values = series.to_numpy() if str(series.dtype) in ("float16", "float32") else series
     return [text_of(value) for value in values]

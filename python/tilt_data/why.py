@@ -74,7 +74,6 @@ def placed(file: str, text: bytes, fault: Fault) -> Refusal:
 
 
 def bound(words: list[str]) -> dict[str, str]:
-    """The files of the inputs, by the words of `run`."""
     found: dict[str, str] = {}
     at = 1
     while at < len(words):
@@ -195,7 +194,6 @@ def known_notes(files: Mapping[str, str], stale: list[str]) -> dict[str, Notes]:
 
 
 def distinct(found: Iterable[tuple[str, Fact]]) -> dict[Fact, list[str]]:
-    """The names that have each value."""
     names: dict[Fact, list[str]] = {}
     for name, fact in found:
         names.setdefault(fact, []).append(name)

@@ -87,7 +87,6 @@ def write_files(file: IO[str], picture: Picture, gap: int, written: dict[str, Wr
 
 
 def is_band(file: str, picture: Picture) -> bool:
-    """Whether a file is drawn as a band."""
     return any(one.form == "band" and one.file == file for one in picture.all)
 
 
