@@ -96,7 +96,7 @@ def test_the_caret_stands_under_the_place():
     long = ("input x;" * 1 + " " * 300 + "emit y over (0, 10];").encode()
     lines = list(placed("q", long, fault_of(long)).lines())
     assert lines[1][lines[2].index("^")] == "y" and len(lines[1]) <= 124
-    assert place_of(b"a\nb", 2).line == 2
+    assert place_of(b"a\nb", 2)[0] == 2
 
 
 # With the program

@@ -13,7 +13,7 @@ import json
 import os
 import re
 import time
-from typing import Callable, Iterable, Iterator
+from typing import Callable, Iterable, Iterator, NamedTuple
 
 from .clock import TIMES
 from .convert import row_text
@@ -39,8 +39,7 @@ Stamp = tuple[int, int, int, int]
 Check = Callable[[], None]
 
 
-@dataclasses.dataclass(frozen=True)
-class Block:
+class Block(NamedTuple):
     """Rows that stand together in a file: their first byte and how many bytes they have, how many rows they are, the start of the first
     one, the end of the last one, and a digest of the bytes."""
 
@@ -205,7 +204,7 @@ def make_index(path: str, folder: str, check: Check = lambda: None) -> Indexed:
     fields = {"tilt-data": VERSION, "path": path, "stamp": stamp, "file": file, "file-stamp": file_stamp, "settled": indexed.settled}
     # An index that a stop of the machine tears can't be read, and is made again.
     with placed(index_path(path, folder), lasting=False) as new:
-        new.write(json.dumps({**fields, "blocks": [dataclasses.astuple(block) for block in blocks]}).encode())
+        new.write(json.dumps({**fields, "blocks": blocks}).encode())
     return indexed
 
 

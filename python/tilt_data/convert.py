@@ -2,7 +2,7 @@
 from __future__ import annotations
 
 import dataclasses
-from typing import Any
+from typing import Any, NamedTuple
 
 from .clock import Clock
 from .files import Row
@@ -10,8 +10,7 @@ from .files import Row
 TIES = ("last", "first", "spread", "refuse")
 
 
-@dataclasses.dataclass(frozen=True)
-class Rule:
+class Rule(NamedTuple):
     """The convention of a series. With `hold` a reading holds until the next one, and for `max_age` ticks at most where that isn't None;
     else it is an event of one tick. `ties` says which of the readings in one tick stands."""
 

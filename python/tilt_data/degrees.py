@@ -4,15 +4,14 @@ If the inputs are stored times 10, a sum or an average of them is times 10 too, 
 number that is compared with a value, or added to it, has to have the scale of that value."""
 from __future__ import annotations
 
-import dataclasses
+from typing import NamedTuple
 
 from .grammar import COMPARISONS, Node, statements_of
 from .scales import decimal_text
 from .tokens import Faulty
 
 
-@dataclasses.dataclass(frozen=True)
-class Amount:
+class Amount(NamedTuple):
     """What an expression gives: the power of the scale in its values, and None for one of numbers alone; and these numbers."""
 
     power: int | None

@@ -7,7 +7,7 @@ from typing import Iterator
 
 from .clock import TIMES
 from .grammar import COMPARISONS, Node, Statement, statements_of
-from .tokens import NOTHING, Fault, Faulty, Token, place
+from .tokens import NOTHING, Faulty, Token, place
 
 MOST_PERIOD = 10**12 + 1
 FARTHEST = 10**12
@@ -15,7 +15,7 @@ WORDS = {"int": "a number", "bool": "a truth value"}
 CURES = {"bool": "a number becomes a truth value by a comparison, as x != 0", "int": "a truth value becomes a number by if c then 1 else 0"}
 
 
-def fault_of(text: bytes) -> Fault | None:
+def fault_of(text: bytes) -> Faulty | None:
     """The first fault of a query, or None where `tilt` takes it."""
     try:
         statements = statements_of(text)
@@ -24,7 +24,7 @@ def fault_of(text: bytes) -> Fault | None:
             check(statement, types)
         far(statements)
     except Faulty as faulty:
-        return faulty.fault
+        return faulty
     except RecursionError:
         return None
     return None

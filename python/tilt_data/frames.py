@@ -12,7 +12,7 @@ import pathlib
 import re
 import sys
 import warnings
-from typing import TYPE_CHECKING, Any, Callable, Iterable, Iterator, Literal, Mapping, Union, Unpack, get_args
+from typing import TYPE_CHECKING, Any, Iterable, Iterator, Literal, Mapping, Union, Unpack, get_args
 
 from . import sessions
 from .clock import TIMES, Clock, duration_of, duration_text, moment_text

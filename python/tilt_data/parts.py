@@ -7,7 +7,7 @@ from __future__ import annotations
 
 import dataclasses
 import os
-from typing import IO, Callable, Iterable
+from typing import IO, Callable, Iterable, NamedTuple
 
 from .errors import Refused
 from .files import HEADER_LINE
@@ -19,8 +19,7 @@ from .tokens import tokens_of
 LONGEST = 128
 
 
-@dataclasses.dataclass(frozen=True)
-class Part:
+class Part(NamedTuple):
     """A part of a domain: its number from 1, and its stretch (start, end], in which the step before its cut is counted."""
 
     number: int

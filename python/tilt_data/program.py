@@ -8,7 +8,7 @@ import pathlib
 import shutil
 import subprocess
 import threading
-from typing import IO, Sequence
+from typing import IO, NamedTuple, Sequence
 
 from .errors import Refused
 
@@ -42,8 +42,7 @@ def released() -> str | None:
     return done.stdout.removesuffix("\n") if done.returncode == 0 else None
 
 
-@dataclasses.dataclass(frozen=True)
-class Called:
+class Called(NamedTuple):
     """How a call of the program ended: its status, below 0 for the signal that ended it; its text on standard error; and what it printed,
     where the caller named no place for that."""
 

@@ -10,7 +10,7 @@ import os
 import pickle
 import re
 import shlex
-from typing import Any, Iterable, Iterator, Mapping, NamedTuple
+from typing import Any, Iterable, Iterator, Mapping
 
 from .clock import TIMES, Clock, Moments, duration_text, moment_text, zone_of
 from .convention import TextConvention, time_text
@@ -32,15 +32,6 @@ TAB = r"\t"
 
 # A reading: its moment, its line, its key, the name of its series, and the text of its value.
 Reading = tuple[int, int, str, str, str]
-
-
-class Columns(NamedTuple):
-    """Where in a record are the time, the key, the name of the series, and the values: their places and the names of their series."""
-
-    time: int
-    key: int | None
-    name: int | None
-    values: list[tuple[int, str]]
 
 
 def add(commands: Any) -> None:
@@ -72,8 +63,9 @@ def column(header: list[str], name: str, path: str) -> int:
     return header.index(name)
 
 
-def columns_of(header: list[str], words: argparse.Namespace) -> Columns:
-    """The columns that the arguments name. Two of one name would become one series."""
+def columns_of(header: list[str], words: argparse.Namespace) -> tuple[int, int | None, int | None, list[int]]:
+    """The columns that the arguments name: of the time, the key, the name of the series, and the values. Two of one name would become one
+    series."""
     path = words.file
     if words.time is None:
         raise refused_at(path, 1, f"which column has the times? --time COL; there are: {', '.join(header)}")
@@ -90,7 +82,7 @@ def columns_of(header: list[str], words: argparse.Namespace) -> Columns:
             raise refused_at(path, 1, f"{what}: rename one of them, or name the columns of values by --value")
     if not values or name is not None and len(values) != 1:
         raise refused_at(path, 1, "one column of values was expected: name it by --value" if name is not None else "no column of values")
-    return Columns(time or 0, key, name, [(at, header[at]) for at in values])
+    return time or 0, key, name, values
 
 
 def readings_of(source: str, words: argparse.Namespace) -> Iterator[Reading]:
@@ -102,17 +94,18 @@ def readings_of(source: str, words: argparse.Namespace) -> Iterator[Reading]:
     with reading(source, path) as file:
         found = records(path, file, delimiter)
         _, header = next(found, (1, [""]))
-        columns = columns_of([title.strip() for title in header], words)
+        titles = [title.strip() for title in header]
+        at_time, at_key, at_name, values = columns_of(titles, words)
         for line, record in shown(found, "readings"):
             if len(record) != len(header):
                 raise refused_at(path, line, f"{len(header)} fields were expected as in the header, not {len(record)}")
             try:
-                moment = moments.read(record[columns.time])
+                moment = moments.read(record[at_time])
             except ValueError as error:
                 raise refused_at(path, line, str(error)) from error
-            key = "" if columns.key is None else record[columns.key]
-            for at, title in columns.values:
-                yield moment, line, key, title if columns.name is None else record[columns.name].strip(), record[at]
+            key = "" if at_key is None else record[at_key]
+            for at in values:
+                yield moment, line, key, titles[at] if at_name is None else record[at_name].strip(), record[at]
 
 
 def in_order(readings: Iterable[Reading], folder: str, most: int = 100000) -> Iterator[Reading]:

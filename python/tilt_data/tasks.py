@@ -8,7 +8,7 @@ import functools
 import hashlib
 import os
 import time
-from typing import Callable, TypeVar
+from typing import Callable, NamedTuple, TypeVar
 
 from . import blocks, parts
 from .blocks import Indexed, Stamp, stamp_of
@@ -25,8 +25,7 @@ T = TypeVar("T")
 UNSTOPPED = Processes()
 
 
-@dataclasses.dataclass(frozen=True)
-class Stretch:
+class Stretch(NamedTuple):
     """The rows of an input that a part needs: those with a tick in (low, high], and where they stand."""
 
     name: str
@@ -35,8 +34,7 @@ class Stretch:
     segments: tuple[Indexed, ...]
 
 
-@dataclasses.dataclass(frozen=True)
-class Task:
+class Task(NamedTuple):
     """A part of the output of a key: the query over the part's stretch, the rows that it needs, and the file that gets the output.
     `program` is a digest of the program that is to be called."""
 
@@ -62,24 +60,21 @@ class Made:
     of_keys: tuple[Made, ...] = ()
 
 
-@dataclasses.dataclass(frozen=True)
-class Keys:
+class Keys(NamedTuple):
     """Small keys whose outputs are to be made by one task, one after another: for each its only part, and its whole. All have the same
     query, since none has cuts."""
 
     keys: tuple[tuple[Task, Joining], ...]
 
 
-@dataclasses.dataclass(frozen=True)
-class Indexing:
+class Indexing(NamedTuple):
     """Series whose indexes are to be made, and the folder that gets them."""
 
     paths: tuple[str, ...]
     folder: str
 
 
-@dataclasses.dataclass(frozen=True)
-class Joining:
+class Joining(NamedTuple):
     """The parts of a key with their files, and the file of the whole."""
 
     key: str

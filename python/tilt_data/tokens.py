@@ -1,8 +1,8 @@
 """The tokens of a query, each with its place, by the rules of docs/LANGUAGE.md."""
 from __future__ import annotations
 
-import dataclasses
 import re
+from typing import NamedTuple
 
 REDUCERS = ("sum", "avg", "min", "max", "count", "first", "last", "any", "all")
 RESERVED = frozenset("input let emit over every from if then else when or and not true false isnull ifnull t".split()) | {*REDUCERS}
@@ -11,8 +11,7 @@ TOKEN = re.compile(rb"([A-Za-z_][A-Za-z0-9_]*)|([0-9]+)|==|!=|<=|>=|[;=<>+\-*/%(
 GREATEST_NUMBER = 2**63 - 1
 
 
-@dataclasses.dataclass(frozen=True)
-class Token:
+class Token(NamedTuple):
     """A token: its kind (`name`, `number`, or its own text), its text, and the first byte and the one after the last."""
 
     kind: str
@@ -33,23 +32,13 @@ FAULTS = {"too long": 23, "syntax": 24, "place of emit": 25, "name taken": 26, "
 FAULTS |= {"type mismatch": 28, "bad window": 29, "bad domain": 30}
 
 
-@dataclasses.dataclass(frozen=True)
-class Fault:
-    """Why a query is refused: the program's line without `tilt: `, the bytes that are to blame, what was expected, and a cure."""
-
-    line: str
-    begin: int
-    end: int
-    expected: str
-    cure: str = ""
-
-
 class Faulty(Exception):
-    """Ends the reading of a query at its first fault."""
+    """Why a query is refused: the program's line without `tilt: `, the bytes that are to blame, what was expected, and a cure. It ends the
+    reading of the query."""
 
     def __init__(self, line: str, token: Token, expected: str, cure: str = "") -> None:
         super().__init__(line)
-        self.fault = Fault(line, token.begin, token.end, expected, cure)
+        self.line, self.begin, self.end, self.expected, self.cure = line, token.begin, token.end, expected, cure
 
     @staticmethod
     def of(number: int, what: str, token: Token, expected: str, cure: str = "") -> Faulty:
@@ -98,18 +87,10 @@ def unknown_byte(text: bytes, at: int) -> Faulty:
     return Faulty(line, place(at, end), "a letter or sign of ASCII was expected", "write names without accents")
 
 
-@dataclasses.dataclass(frozen=True)
-class Place:
-    """Where a byte stands: its line and its column, from 1, and the text of its line."""
-
-    line: int
-    column: int
-    text: str
-
-
-def place_of(text: bytes, at: int) -> Place:
+def place_of(text: bytes, at: int) -> tuple[int, int, str]:
+    """The line and the column of a byte, from 1, and the text of its line."""
     begin = text.rfind(b"\n", 0, at) + 1
     end = text.find(b"\n", at)
     whole = text[begin : len(text) if end < 0 else end].rstrip(b"\r")
     before = text[begin:at].decode("utf-8", "replace")
-    return Place(text.count(b"\n", 0, at) + 1, len(before) + 1, whole.decode("utf-8", "replace"))
+    return text.count(b"\n", 0, at) + 1, len(before) + 1, whole.decode("utf-8", "replace")

@@ -17,7 +17,7 @@ from .errors import Refused, note, printable
 from .files import Notes, Stale, notes_of
 from .forms import fault_of
 from .program import call, inputs_of
-from .tokens import Fault, place_of
+from .tokens import Faulty, place_of
 
 SERIES_LINE = re.compile(r"(1[0-7]) series (\S+): (.*)")
 ROW = re.compile(r" in row (\d+)$")
@@ -65,12 +65,10 @@ class Refusal:
             yield f"    {printable(self.cure)}"
 
 
-def placed(file: str, text: bytes, fault: Fault) -> Refusal:
+def placed(file: str, text: bytes, fault: Faulty) -> Refusal:
     """The place of a fault. At the end of a text it is after the last token."""
-    at = fault.begin
-    place = place_of(text, at)
     width = len(text[fault.begin : fault.end].decode("utf-8", "replace"))
-    return Refusal(file, place.line, place.column, place.text, width, fault.expected, fault.cure)
+    return Refusal(file, *place_of(text, fault.begin), width, fault.expected, fault.cure)
 
 
 def bound(words: list[str]) -> dict[str, str]:
