@@ -17,9 +17,9 @@ from tilt_data.clock import TIMES, Clock, moment_text
 from tilt_data.convention import moment_read
 from tilt_data.convert import Converter, Late, Tie, row_text
 from tilt_data.digits import rows_text
-from tilt_data.frames import arrays_of, beyond, keys_of
+from tilt_data.frames import arrays_of, keys_of
 from tilt_data.keys import Alone
-from tilt_data.rows import RowArrays, output_of
+from tilt_data.rows import RowArrays, beyond, output_of
 from tilt_data.scales import Scale
 from tilt_data.table import merged
 from tilt_data.whole import digits_in, digits_after_point, in_python, texts_of, whole_numbers

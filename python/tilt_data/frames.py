@@ -24,7 +24,7 @@ from .files import HEADER_LINE, Notes, Outputs, check_replaceable, notes_of, not
 from .keys import APART, Alone, Batches, readings_by_key
 from .over import Extent, Over, cut_note, edges_of, over_of
 from .program import REFUSALS, Explained
-from .rows import RowArrays, Unordered, arrays_in, fits, output_of, rows_pushed
+from .rows import RowArrays, arrays_in, beyond, fits, output_of, rows_pushed
 from .whole import digits_in, whole_numbers
 
 if TYPE_CHECKING:
@@ -627,15 +627,7 @@ def rows_of_some(name: str, converter: Converter, convention: Convention, moment
     """The rows that readings of an input end."""
     if convention.skips_empty(name) and known is not None:
         moments, values, known = moments[known], values[known], None
-    try:
-        for rows in rows_pushed(converter, moments, values, known):
-            yield within(name, rows)
-    except Unordered as error:
-        at = moment_text(error.moment, 9)
-        what = f"two readings in one tick at {at}: ties='last', 'first' or 'spread', or a shorter tick"
-        if error.is_late:
-            what = f"the reading at {at} lies before the one before it: sort_index()"
-        raise Refused(f"the input {name}: {what}") from error
+    return rows_pushed(name, converter, moments, values, known)
 
 
 def final_row(name: str, converter: Converter, convention: Convention) -> RowArrays:
@@ -644,17 +636,6 @@ def final_row(name: str, converter: Converter, convention: Convention) -> RowArr
     if row is not None and not -TIMES <= row[0] < row[1] <= TIMES:
         raise beyond(name)
     return RowArrays.of([] if row is None else [row])
-
-
-def within(name: str, rows: RowArrays) -> RowArrays:
-    """Rows with ticks that the program takes, as 64-bit integers."""
-    if len(rows) and not -TIMES <= rows.starts[0] <= rows.ends[-1] <= TIMES:
-        raise beyond(name)
-    return dataclasses.replace(rows, starts=rows.starts.astype("i8", copy=False), ends=rows.ends.astype("i8", copy=False))
-
-
-def beyond(name: str) -> Refused:
-    return Refused(f"the input {name}: a time is more than {TIMES} ticks from the origin: a longer tick=, or a nearer origin=")
 
 
 def rows_of_intervals(name: str, index: Any, clock: Clock, values: Any, known: Any) -> RowArrays:

@@ -10,8 +10,9 @@ import itertools
 from typing import Any, Iterable, Iterator
 
 from . import digits
-from .clock import TIMES
+from .clock import TIMES, moment_text
 from .convert import Converter
+from .errors import Refused
 from .files import HEADER, Row, rows_in
 from .scales import decimal_text
 
@@ -122,23 +123,15 @@ class RowArrays:
         return divided if self.known is None else numpy.where(self.known, divided, numpy.nan)
 
 
-class Unordered(ValueError):
-    """A reading that the convention rejects: its moment, and whether it lies before the one before it, or in its tick."""
-
-    def __init__(self, moment: int, is_late: bool) -> None:
-        super().__init__(moment)
-        self.moment, self.is_late = moment, is_late
-
-
 def fits(tick: int, least: int, greatest: int) -> bool:
     """Whether 64 bits hold all that is on the way from moments to ticks, which are within the times that the program takes. Moments are
     from the origin on."""
     return -(2**63) < least and greatest < 2**63 and tick < 2**63 and -TIMES <= least // tick - 1 and greatest // tick <= TIMES
 
 
-def rows_pushed(converter: Converter, moments: Any, values: Any, known: Any) -> Iterator[RowArrays]:
-    """The rows that readings end, as `Converter.push` has them; the last reading is held back. What the rule rejects is `Unordered`, after
-    the rows before it.
+def rows_pushed(name: str, converter: Converter, moments: Any, values: Any, known: Any) -> Iterator[RowArrays]:
+    """The rows that readings of an input end, as `Converter.push` has them; the last reading is held back. What the rule or the program
+    rejects is a Refused, after the rows before it.
 
     `moments` are in nanoseconds, `values` whole numbers, and `known` is False where there is none, or None.
     """
@@ -162,9 +155,20 @@ def rows_pushed(converter: Converter, moments: Any, values: Any, known: Any) -> 
         late = some[1:] < some[:-1]
         wrong = late | (starts[1:] <= starts[:-1]) if rule.ties == "refuse" else late
         end = 1 + int(wrong.argmax()) if wrong.any() else len(some)
-        yield rows_ended(converter, int(some[end - 1]), starts[:end], own[:end], None if there is None else there[:end])
+        rows = rows_ended(converter, int(some[end - 1]), starts[:end], own[:end], None if there is None else there[:end])
+        if len(rows) and not -TIMES <= rows.starts[0] <= rows.ends[-1] <= TIMES:
+            raise beyond(name)
+        yield dataclasses.replace(rows, starts=rows.starts.astype("i8", copy=False), ends=rows.ends.astype("i8", copy=False))
         if end < len(some):
-            raise Unordered(int(some[end]), bool(late[end - 1]))
+            time = moment_text(int(some[end]), 9)
+            what = f"two readings in one tick at {time}: ties='last', 'first' or 'spread', or a shorter tick"
+            if late[end - 1]:
+                what = f"the reading at {time} lies before the one before it: sort_index()"
+            raise Refused(f"the input {name}: {what}")
+
+
+def beyond(name: str) -> Refused:
+    return Refused(f"the input {name}: a time is more than {TIMES} ticks from the origin: a longer tick=, or a nearer origin=")
 
 
 def rows_ended(converter: Converter, moment: int, starts: Any, values: Any, known: Any) -> RowArrays:
