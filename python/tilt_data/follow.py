@@ -468,8 +468,7 @@ class Follower:
         self.rejected = self.fresh = 0
         self.every = duration_of(words.every) / 10**9
         with open(self.query, encoding="utf-8") as file:
-            over = over_of(file.read())
-        self.over = None if over is None else over.end
+            self.over = over_of(file.read()).end
         self.ended = False
         self.warned: dict[str, int | None] = {}
 
@@ -587,7 +586,7 @@ class Follower:
         cut = self.cut()
         if cut is None:
             return
-        if self.over is not None and cut >= self.over + self.explained.ahead:
+        if cut >= self.over + self.explained.ahead:
             self.end()
             note(f"the query's `over` has ended at {self.over}: no more rows come")
         elif self.store.cut == "begin" or cut > int(self.store.cut):
@@ -642,7 +641,7 @@ class Follower:
         """Says once which inputs given by a file have no more rows."""
         for name, source in self.sources.items():
             last = source.reached
-            if source.fixed and name not in self.warned and (last is None or last < cut and (self.over is None or last < self.over)):
+            if source.fixed and name not in self.warned and (last is None or last < min(cut, self.over)):
                 self.warned[name] = last
                 what = "it has no rows" if last is None else f"its rows end at {self.reader.text(last)}"
                 note(f"{source.path}: {what}: {name} is null from there on")

@@ -113,26 +113,23 @@ class Query:
             taken.files |= parted(named)[0]
             if len(taken.extents) == len(taken.files):
                 self.warn_of_scale(convention, scale)
-            moved = self.over_in(taken, look.over)
-            rows = self.rows_of_run(folder, moved, {name: taken.files[name] for name in self.inputs})
-        own = taken.over if moved is None else over_of(moved)
-        return shape.frame(rows if own is None else look.kept(rows, own.start, own.end), look)
+            text, start, end = self.over_in(taken, look.over)
+            rows = self.rows_of_run(folder, text, {name: taken.files[name] for name in self.inputs})
+        return shape.frame(look.kept(rows, start, end), look)
 
-    def over_in(self, taken: Inputs, over: Range | None) -> str | None:
-        """The query over all ticks in which the inputs have rows, if that is asked for, and else None. If it isn't said that the `over` of
-        the query is meant, rows that it leaves out are a warning."""
-        if taken.over is None:
-            return None
+    def over_in(self, taken: Inputs, over: Range | None) -> tuple[str, int, int]:
+        """The query and its `over`, or if that is asked for, the query over all ticks in which the inputs have rows. If it isn't said that
+        the `over` of the query is meant, rows that it leaves out are a warning."""
         if over == "data":
             files = [Extent.of(arrays_in(file)) for name, file in taken.files.items() if name not in taken.extents]
-            edges = needed_edges([*taken.extents.values(), *files], "over='data': ")
-            return taken.over.moved(self.text, *taken.over.around(*edges))
+            start, end = taken.over.around(*needed_edges([*taken.extents.values(), *files], "over='data': "))
+            return taken.over.moved(self.text, start, end), start, end
         if over is None:
             warn(cut_note(taken.over, taken.extents))
-        return None
+        return self.text, taken.over.start, taken.over.end
 
-    def rows_of_run(self, folder: str, text: str | None, files: dict[str, str]) -> RowArrays:
-        """What the program prints for the query, or for a text in its place, over these files; its own are in the folder."""
+    def rows_of_run(self, folder: str, text: str, files: dict[str, str]) -> RowArrays:
+        """What the program prints for the query with this text over these files; its own are in the folder."""
         path, out = self.put(folder, text), os.path.join(folder, "out.csv")
         try:
             sessions.session(path, None, files, None, "", out)
@@ -171,7 +168,7 @@ class Query:
     def by_batches(self, data: Any, keys: Keys, look: Look, convention: Convention, shape: Shape) -> pandas.DataFrame:
         """Runs over many keys at a time, as `keys.py` says it."""
         own, clock = over_of(self.text), shape.clock
-        if own is None or own.common is None or not len(keys.keys):
+        if own.common is None or not len(keys.keys):
             raise Alone
         bounds, order = readings_by_key(keys.numbers, len(keys.keys))
         explained, moments = self.explain(), moments_of(data.index, "the index")
@@ -202,10 +199,8 @@ class Query:
         return shape.keyed(keys, [output.moved(shift) for output, shift in zip(outputs, shifts)], look)
 
     def run_over(self, folder: str, own: Over, rows: dict[str, RowArrays], over: tuple[int, int]) -> RowArrays:
-        taken = Inputs(folder, None)
-        for name, one in rows.items():
-            taken.take(name, one.blocks())
-        return self.rows_of_run(folder, own.moved(self.text, *over), taken.files)
+        files = {name: sessions.put_rows(folder, name, (part.text() for part in one.blocks())) for name, one in rows.items()}
+        return self.rows_of_run(folder, own.moved(self.text, *over), files)
 
     def warn_of_scale(self, convention: Convention, scale: int) -> None:
         """Warns if the data have a scale that the caller didn't give, and it changes what the query means."""
@@ -473,7 +468,7 @@ class Inputs:
     """Takes the rows of Series to files in a folder, and notes how far they reach."""
 
     folder: str
-    over: Over | None
+    over: Over
     files: dict[str, str] = dataclasses.field(default_factory=dict)
     extents: dict[str, Extent] = dataclasses.field(default_factory=dict)
 

@@ -5,7 +5,6 @@ import dataclasses
 import math
 from typing import Iterable
 
-from .forms import fault_of
 from .grammar import statements_of
 from .rows import RowArrays
 
@@ -38,12 +37,7 @@ class Over:
         return (text[:first] + b"%d" % start + text[after:last] + b"%d" % end + text[rest:]).decode()
 
 
-def over_of(query: str) -> Over | None:
-    """The `over` of a query; None if the program rejects the query."""
-    return None if fault_of(query.encode()) is not None else over_in(query)
-
-
-def over_in(query: str) -> Over:
+def over_of(query: str) -> Over:
     """The `over` of a query that the program takes."""
     *others, emit = statements_of(query.encode())
     (start, first), (end, last) = emit.bounds

@@ -12,7 +12,7 @@ from typing import IO, Callable, Iterable, NamedTuple
 from .errors import Refused
 from .files import HEADER_LINE
 from .grammar import MOST_TOKENS
-from .over import Over, over_in
+from .over import Over, over_of
 from .tokens import tokens_of
 
 # No line of an output has more bytes.
@@ -36,7 +36,7 @@ class Domain(Over):
 
     @staticmethod
     def of(text: str) -> Domain:
-        over = over_in(text)
+        over = over_of(text)
         # A minus before a bound is a token more: a statement that has all that it may have can't take it.
         tokens = tokens_of(text.encode())
         begin = max((at for at, token in enumerate(tokens[:-1], 1) if token.kind == ";"), default=0)
