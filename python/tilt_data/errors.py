@@ -1,7 +1,6 @@
 """What is told where a command can't go on."""
 from __future__ import annotations
 
-import dataclasses
 import sys
 import unicodedata
 from typing import TYPE_CHECKING
@@ -47,9 +46,3 @@ class TiltError(Refused):
         self.line = line
         self.status = status
         self.place = place
-
-    def renamed(self, file: str, name: str) -> TiltError:
-        """The same refusal, with the name that the caller knows a file by."""
-        if self.place is None or self.place.file != file:
-            return self
-        return TiltError(self.line, self.status, dataclasses.replace(self.place, file=name))

@@ -131,10 +131,7 @@ class Query:
     def rows_of_run(self, folder: str, text: str, files: dict[str, str]) -> RowArrays:
         """What the program prints for the query with this text over these files; its own are in the folder."""
         path, out = self.put(folder, text), os.path.join(folder, "out.csv")
-        try:
-            sessions.session(path, None, files, None, "", out)
-        except TiltError as error:
-            raise error.renamed(path, self.name) from None
+        sessions.session(path, None, files, None, "", out, self.name)
         return output_of(out)
 
     def by_key(self, data: Any, by: str, look: Look, convention: Convention, named: dict[str, Any]) -> pandas.DataFrame:

@@ -1,6 +1,7 @@
 """Sessions of `tilt`: each is given the rows of each input that start below its cut, and goes on from the checkpoint of the one before."""
 from __future__ import annotations
 
+import dataclasses
 import os
 from typing import Iterable, Mapping
 
@@ -11,28 +12,23 @@ from .files import HEADER_LINE, failing_at
 from .why import refusal_of
 
 
-def call(words: list[str], out: str) -> None:
-    """Calls the program, with its output in a file. What it refuses is an error that carries its line, its status and the place."""
-    with failing_at(out), open(out, "wb") as file:
-        check(program.call(words, file), words)
-
-
-def check(called: program.Called, words: list[str]) -> None:
+def check(called: program.Called, words: list[str], name: str | None = None) -> None:
+    """What the program refuses is an error that carries its line, its status and the place. It names the query as the caller knows it."""
     if called.status < 0:
         raise TiltError(f"the program was ended by signal {-called.status}", 128 - called.status)
     if called.status:
         line = called.told.rstrip("\n")
-        raise TiltError(line, called.status, refusal_of(line, words[1:]))
+        place = refusal_of(line, words[1:])
+        if place is not None and name is not None and place.file == words[1]:
+            place = dataclasses.replace(place, file=name)
+        raise TiltError(line, called.status, place)
 
 
 def explained(query: str, name: str) -> Explained:
-    """What `tilt explain` says of the query in a file. One that it rejects is an error as of `call`, which names the file so."""
+    """What `tilt explain` says of the query in a file. One that it rejects is an error."""
     words = ["explain", query]
     called = program.call(words)
-    try:
-        check(called, words)
-    except TiltError as error:
-        raise error.renamed(query, name) from None
+    check(called, words, name)
     return Explained.of(called.printed.decode())
 
 
@@ -45,15 +41,15 @@ def put_rows(folder: str, name: str, texts: Iterable[bytes]) -> str:
     return path
 
 
-def binds(paths: Mapping[str, str]) -> list[str]:
-    return [f"{name}={path}" for name, path in paths.items()]
-
-
-def session(query: str, state: str | None, paths: Mapping[str, str], cuts: Mapping[str, int] | None, save: str, out: str) -> None:
+def session(
+    query: str, state: str | None, paths: Mapping[str, str], cuts: Mapping[str, int] | None, save: str, out: str, name: str | None = None
+) -> None:
     """Runs a session over the rows in files: the first one of a query, or one that goes on from the checkpoint `state`. One up to a cut of
-    each input saves a checkpoint, and one without is the last."""
-    upto = [] if cuts is None else ["--upto", ",".join(f"{name}={cut}" for name, cut in cuts.items()), "--save", save]
+    each input saves a checkpoint, and one without is the last. Its output goes to a file."""
+    binds = [f"{input}={path}" for input, path in paths.items()]
+    upto = [] if cuts is None else ["--upto", ",".join(f"{input}={cut}" for input, cut in cuts.items()), "--save", save]
+    words = ["run" if cuts is None else "start", query, *binds, *upto]
     if state is not None:
-        call(["resume", state, *binds(paths), *(upto or ["--end"])], out)
-    else:
-        call(["run" if cuts is None else "start", query, *binds(paths), *upto], out)
+        words = ["resume", state, *binds, *(upto or ["--end"])]
+    with failing_at(out), open(out, "wb") as file:
+        check(program.call(words, file), words, name)
