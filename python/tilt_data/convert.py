@@ -50,8 +50,11 @@ class Converter:
             raise Late
         self.moment = moment
         if start <= self.start:
+            if self.rule.ties == "refuse":
+                raise Tie
             if self.rule.ties != "spread":
-                self.settle(value)
+                self.dropped += 1
+                self.value = value if self.rule.ties == "last" else self.value
                 return None
             start = self.start + 1
             self.moved += 1
@@ -60,13 +63,6 @@ class Converter:
         self.gaps += row[1] < start and self.rule.hold
         self.start, self.value = start, value
         return row
-
-    def settle(self, value: int | None) -> None:
-        if self.rule.ties == "refuse":
-            raise Tie
-        self.dropped += 1
-        if self.rule.ties == "last":
-            self.value = value
 
     def row(self, following: int | None) -> Row:
         """The row of the reading that is held back, where the next one starts at `following`, or isn't known."""
