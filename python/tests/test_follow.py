@@ -692,6 +692,41 @@ def test_a_folder_of_an_earlier_version_is_continued_with_a_warning(tilt, tmp_pa
     assert (tmp_path / "s" / "output.csv").read_text() == "start,end,value\n1,5,14\n5,9,24\n9,39,34\n"
 
 
+def test_rows_of_an_input_that_is_ahead_are_in_the_checkpoint(tilt, tmp_path):
+    (tmp_path / "q").write_text("input x; input y; emit x + y over (0, 40];")
+    ahead = "".join(f"x,{at},{at + 1},{at}\n" for at in range(30)).encode()
+    words = ["--state", "s", "--rows", "31"]
+    assert done(follow(tmp_path, *words, stdin=subprocess.PIPE), ahead + b"y,0,5,100\n")[:2] == (
+        0,
+        "start,end,value\n0,1,100\n1,2,101\n2,3,102\n3,4,103\n",
+    )
+    inputs = json.loads((tmp_path / "s" / "notes.5").read_text())["inputs"]
+    assert inputs == {"x": {"reached": 30, "converter": None}, "y": {"reached": 5, "converter": None}}
+    assert done(follow(tmp_path, *words, "--end", stdin=subprocess.PIPE), b"y,5,40,200\n")[0] == 0
+    lines = [f"{at},{at + 1},{at + (100 if at < 5 else 200)}\n" for at in range(30)]
+    assert (tmp_path / "s" / "output.csv").read_text() == "start,end,value\n" + "".join(lines)
+
+
+def test_rows_that_an_earlier_version_held_back_are_handed_on(tilt, tmp_path):
+    """Its sessions had one cut for all inputs, and its notes the rows above it."""
+    query = "input x; input y; emit x + y over (0, 40];"
+    state = tmp_path / "s"
+    state.mkdir()
+    (tmp_path / "q").write_text(query)
+    (state / "query.tilt").write_text(query)
+    for name, rows in (("x", "0,3,1\n3,5,2\n"), ("y", "0,5,100\n")):
+        (tmp_path / f"{name}.csv").write_text("start,end,value\n" + rows)
+    words = [tilt, "start", "q", "x=x.csv", "y=y.csv", "--upto", "5", "--save", "s/state.5"]
+    part = subprocess.run(words, cwd=tmp_path, check=True, capture_output=True).stdout
+    (state / "part.5").write_bytes(part)
+    (state / "output.csv").write_bytes(part)
+    inputs = {"x": {"rows": [[5, 8, 3], [8, 9, 4]], "reached": 9, "converter": None}, "y": {"rows": [], "reached": 5, "converter": None}}
+    (state / "notes.5").write_text(json.dumps({"output": 0, "lines": 5, "inputs": inputs, "shape": None}))
+    (state / "lock").write_text("")
+    assert done(follow(tmp_path, "--state", "s", "--end", stdin=subprocess.PIPE), b"y,5,9,200\n")[::2] == (0, "")
+    assert (state / "output.csv").read_text() == "start,end,value\n0,3,101\n3,5,102\n5,8,203\n8,9,204\n"
+
+
 # Lines that can't be taken
 
 

@@ -615,6 +615,23 @@ def test_sessions_over_intervals():
     assert len(parts[1]) and joined(parts) == joined([run(query, inputs={"x": rows}, **COMMON)])
 
 
+def test_a_query_without_inputs_prints_all_at_its_end():
+    with Query("emit 5 over (0, 7200];").live(origin="2026-03-01") as live:
+        assert len(live.push()) == 0 and live.end()["value"].tolist() == [5]
+
+
+def test_an_input_that_is_ahead_has_no_rows_that_wait():
+    """Each session is given all rows that came, with the cut of each input."""
+    query = "input temp; input limit; emit temp - limit over (0, 7200];"
+    temp, limit = readings(60), readings(60, seed=5)
+    with Query(query).live(**COMMON) as live:
+        parts = [live.push(temp=temp, limit=limit.iloc[:2])]
+        assert all(not rows for rows in live.taken.rows.values())
+        parts += [live.push(limit=limit.iloc[at : at + 7]) for at in range(2, 60, 7)]
+        parts.append(live.end())
+    assert joined(parts) == joined([run(query, inputs={"temp": temp, "limit": limit}, **COMMON)])
+
+
 def test_after_the_end_nothing_is_taken():
     with Query(PUSHED).live(**COMMON) as live:
         live.push(readings(20))

@@ -702,7 +702,8 @@ class Live:
             self.take(taken, name, series)
         self.taken = taken
         cut = min(taken.reached.values(), default=0)
-        if len(taken.reached) < len(taken.rows) or self.done is not None and cut <= self.done:
+        is_behind = not taken.reached or len(taken.reached) < len(taken.rows)
+        if is_behind or self.done is not None and cut <= self.done:
             return self.frame(RowArrays.of([]))
         try:
             return self.frame(self.session(taken, cut))

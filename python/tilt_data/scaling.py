@@ -278,12 +278,8 @@ class Plan:
             file = os.path.join(self.out, "parts", key, f"{part.number:06d}-{found.hexdigest()[:32]}.csv")
             yield Task(key, part, query, tuple(inputs), file, self.program)
 
-    @staticmethod
-    def whole_name(key: str) -> str:
-        return f"{key or ALONE}.csv"
-
     def whole_file(self, key: str) -> str:
-        return os.path.join(self.out, self.whole_name(key))
+        return os.path.join(self.out, whole_name(key))
 
     def notes(self) -> Iterator[str]:
         """Notes on the cuts, and on inputs whose clocks or scales differ."""
@@ -300,6 +296,10 @@ class Plan:
         for clash, keys in found.items():
             more = f" and {len(keys) - 1} more" if len(keys) > 1 else ""
             yield f"note: {clash}" + (f" (the key {keys[0]}{more})" if keys[0] else "")
+
+
+def whole_name(key: str) -> str:
+    return f"{key or ALONE}.csv"
 
 
 def rows_of(files: Mapping[str, list[Indexed]]) -> int:
@@ -369,21 +369,14 @@ class Listing:
 # The run
 
 
-def sweep_parts(folder: str) -> None:
-    """Removes what killed processes left half written in the parts of a call. Only a call with the lock writes there."""
-    parts = os.path.join(folder, "parts")
-    sweep(parts)
-    with contextlib.suppress(OSError), os.scandir(parts) as found:
-        for one in found:
-            if one.is_dir(follow_symlinks=False):
-                sweep(one.path)
-
-
-def sweep(folder: str, age: float = 0) -> None:
-    """Removes half-written files from a folder, but not from folders in it, if nobody has written to them for `age` seconds."""
+def sweep(folder: str, age: float = 0, deep: bool = False) -> None:
+    """Removes half-written files from a folder, if nobody has written to them for `age` seconds; those in the folders of it too if it goes
+    `deep`."""
     with contextlib.suppress(OSError), os.scandir(folder) as found:
         for one in found:
-            if one.name.startswith(".") and one.name.endswith(PLACED):
+            if deep and one.is_dir(follow_symlinks=False):
+                sweep(one.path, age)
+            elif one.name.startswith(".") and one.name.endswith(PLACED):
                 with contextlib.suppress(OSError):
                     if one.stat(follow_symlinks=False).st_mtime <= time.time() - age:
                         os.unlink(one.path)
@@ -404,7 +397,7 @@ class Run:
         self.make_indexes()
         for key in plan.files:
             plan.cut(key, part_rows)
-        names = [plan.whole_name(key) for key in plan.files]
+        names = [whole_name(key) for key in plan.files]
         self.listing.add(names)
         try:
             self.make_parts()
@@ -475,7 +468,7 @@ class Run:
         """The tasks of all parts whose files aren't there. A key whose output is there, joined from the parts that this call would make,
         has none."""
         for key in self.plan.files:
-            digest = self.listing.digest(self.plan.whole_name(key))
+            digest = self.listing.digest(whole_name(key))
             if digest is not None and digest == parts_digest(task.file for task in self.plan.tasks(key)):
                 self.counted.step(len(self.plan.cuts[key]) + 1)
                 self.scaled.outputs[urllib.parse.unquote(key) or ALONE] = self.plan.whole_file(key)
@@ -512,7 +505,7 @@ class Run:
     def take_whole(self, joining: Joining, made: Made) -> None:
         if made.status:
             raise Refused(made.line)
-        self.listing.note(self.plan.whole_name(joining.key), parts_digest(file for _, file in joining.parts))
+        self.listing.note(whole_name(joining.key), parts_digest(file for _, file in joining.parts))
         self.scaled.outputs[urllib.parse.unquote(joining.key) or ALONE] = joining.file
 
     def count(self, task: Task, part: Made) -> None:
@@ -562,12 +555,12 @@ def scale(
     named = {name: [os.fspath(one) for one in files] for name, files in listed.items()}
     plan = Plan(query if isinstance(query, Query) else Query(query), named, os.fspath(out), index)
     with locked(plan.out, "scale"), contextlib.ExitStack() as stack:
-        sweep_parts(plan.out)
-        # Other calls can write to the index at the same time.
+        # What killed processes left: only this call writes to its parts, and other calls can write to the index at the same time.
+        parts = os.path.join(plan.out, "parts")
+        sweep(parts, deep=True)
         sweep(plan.index, 3600)
         if scheduler is not None:
-            # Workers that were killed can't remove what they had half written.
-            stack.callback(sweep_parts, plan.out)
+            stack.callback(sweep, parts, deep=True)
         with engine.opened(scheduler, workers, retries) as its:
             scaled = Run(plan, its, Listing(plan.out), progress).carry_out(part_rows)
     scaled.seconds = time.monotonic() - begun
