@@ -26,11 +26,11 @@ from queries import Draw
 
 from tilt_data import Query, Refused, blocks, engine, parts, scale, tasks
 from tilt_data.errors import TiltError
-from tilt_data.files import placed
+from tilt_data.files import keys_and_files, placed
 from tilt_data.forms import fault_of
 from tilt_data.parts import Domain, Part
 from tilt_data.program import Cancelled, Processes
-from tilt_data.scaling import Plan, files_of, keys_and_files
+from tilt_data.scaling import Plan, files_of
 from tilt_data.tokens import tokens_of
 
 HEADER = "start,end,value\n"

@@ -4,7 +4,6 @@ from __future__ import annotations
 import argparse
 import concurrent.futures
 import contextlib
-import glob
 import itertools
 import os
 import re
@@ -13,7 +12,7 @@ from typing import Any, Iterator, NamedTuple
 
 from .clock import Clock
 from .errors import Refused, note, printable
-from .files import Notes, scratch, unsafe, writing
+from .files import Notes, keys_and_files, scratch, unsafe, writing
 from .program import Processes, call
 from .progress import shown
 from .why import bound, clashes, known_notes, refusal_of
@@ -22,6 +21,10 @@ HELP = """Runs a query for each key. An argument NAME=FILE with {key} in FILE na
 --key` writes it is such as temperature=data/{key}/temperature.csv, and for --prefix data/{key}_temperature.csv. The keys are those for
 which the first such file exists. The other inputs are the same for all keys. The output has the key as its first column:
 key,start,end,value."""
+
+
+# What stands for the key in a word; all other signs are those of the file.
+KEY = re.compile(r"\{key\}")
 
 
 class Done(NamedTuple):
@@ -46,11 +49,7 @@ def add(commands: Any) -> None:
 
 def keys_of(pattern: str) -> list[str]:
     """The keys for which the file is there, as they stand in its name, in order."""
-    before, _, after = pattern.partition("{key}")
-    form = re.compile(re.escape(before) + "([^/]+)" + ".+".join(map(re.escape, after.split("{key}"))))
-    found = glob.glob(glob.escape(before) + "*" + "*".join(map(glob.escape, after.split("{key}"))))
-    keys = {match[1] for match in map(form.fullmatch, found) if match}
-    return sorted(key for key in keys if os.path.exists(pattern.replace("{key}", key)))
+    return sorted(key for key in keys_and_files(pattern, KEY) if key is not None)
 
 
 def runs(words: list[str], keys: list[str], jobs: int, folder: str) -> Iterator[Done]:

@@ -7,10 +7,12 @@ import csv
 import dataclasses
 import errno
 import fcntl
+import glob
 import hashlib
 import io
 import json
 import os
+import pathlib
 import re
 import shutil
 import signal
@@ -43,6 +45,8 @@ ENDING = (signal.SIGINT, signal.SIGTERM, signal.SIGHUP)
 DEFAULTS = {"kind": "hold", "name": "", "key": None, "zone": None, "sha256": None}
 # The conventions of a series.
 KINDS = ("hold", "event", "helper")
+# What stands for a key, or for other signs, in a word that names files.
+WILD = re.compile(r"\{key\}|\*|\?")
 # The folders of the files that a process was handed open.
 HANDED = re.compile(r"/proc/[0-9]+(/task/[0-9]+)?/fd", re.ASCII)
 
@@ -177,6 +181,24 @@ def unsafe(name: str) -> str:
     return text if safe(text) == name else name
 
 
+def keys_and_files(pattern: str, wild: re.Pattern[str] = WILD) -> dict[str | None, list[str]]:
+    """The files of a word by their keys, as these stand in the names; the key is None where the word has none."""
+    if os.path.exists(pattern):
+        return {None: [os.path.abspath(pattern)]}
+    pieces, signs = wild.split(pattern), wild.findall(pattern)
+    form, some = re.escape(pieces[0]), glob.escape(pieces[0])
+    for number, (sign, piece) in enumerate(zip(signs, pieces[1:])):
+        again = sign == "{key}" and sign in signs[:number]
+        form += ("(?P=key)" if again else {"{key}": "(?P<key>[^/]+)", "*": "[^/]*", "?": "[^/]"}[sign]) + re.escape(piece)
+        some += ("?" if sign == "?" else "*") + glob.escape(piece)
+    found: dict[str | None, list[str]] = {}
+    for path in sorted(glob.glob(some)):
+        match = re.fullmatch(form, path)
+        if match and os.path.isfile(path):
+            found.setdefault(match.groupdict().get("key"), []).append(os.path.abspath(path))
+    return found
+
+
 # Files that are written beside their names
 
 
@@ -275,7 +297,7 @@ class Outputs:
             for path in notes:
                 if path in series and self.begun[path] != path:
                     with failing_at(path):
-                        before[path] = bytes_in(path)
+                        before[path] = pathlib.Path(path).read_bytes() if os.path.exists(path) else None
                         put_back(path, PENDING)
             sync_folders(folders if before else [])
             for paths in (others, notes):
@@ -296,13 +318,6 @@ class Outputs:
             if self.begun[path] != path:
                 take_place(self.begun[path], followed(path))
         del self.begun[path]
-
-
-def bytes_in(path: str) -> bytes | None:
-    """The bytes of a small file, or None if there is none."""
-    with contextlib.suppress(FileNotFoundError), open(path, "rb") as file:
-        return file.read()
-    return None
 
 
 def put_back(path: str, text: bytes | None) -> None:

@@ -5,13 +5,11 @@ import argparse
 import collections
 import contextlib
 import dataclasses
-import glob
 import hashlib
 import json
 import logging
 import os
 import pathlib
-import re
 import time
 import urllib.parse
 from typing import TYPE_CHECKING, Any, Iterable, Iterator, Mapping, Sequence, Union
@@ -19,7 +17,7 @@ from typing import TYPE_CHECKING, Any, Iterable, Iterator, Mapping, Sequence, Un
 from . import blocks, engine, tasks
 from .blocks import Block, Indexed
 from .errors import Refused, TiltError, note
-from .files import PLACED, locked, placed
+from .files import PLACED, keys_and_files, locked, placed
 from .frames import Query
 from .parts import Domain, Part
 from .program import program
@@ -36,7 +34,6 @@ run on this machine, several at a time (--workers), or on the workers of a Dask 
 the place of the key, and * and ? for other characters, as in temperature=data/{key}/day-*.csv. Several arguments can have one NAME. The
 folder of --out gets KEY.csv for each key, or output.csv without keys: the bytes that one run over all rows prints. What is finished is
 kept, so that the same call continues after it was stopped."""
-WILD = re.compile(r"\{key\}|\*|\?")
 ALONE = "output"
 PART_ROWS = 1_000_000
 # How many bytes of series one task makes indexes of.
@@ -101,24 +98,6 @@ class Scaled:
 
 
 # The files
-
-
-def keys_and_files(pattern: str) -> dict[str | None, list[str]]:
-    """The files of a word by their keys, as these stand in the names; the key is None where the word has none."""
-    if os.path.exists(pattern):
-        return {None: [os.path.abspath(pattern)]}
-    pieces, signs = WILD.split(pattern), WILD.findall(pattern)
-    form, wild = re.escape(pieces[0]), glob.escape(pieces[0])
-    for number, (sign, piece) in enumerate(zip(signs, pieces[1:])):
-        again = sign == "{key}" and sign in signs[:number]
-        form += ("(?P=key)" if again else {"{key}": "(?P<key>[^/]+)", "*": "[^/]*", "?": "[^/]"}[sign]) + re.escape(piece)
-        wild += ("?" if sign == "?" else "*") + glob.escape(piece)
-    found: dict[str | None, list[str]] = {}
-    for path in sorted(glob.glob(wild)):
-        match = re.fullmatch(form, path)
-        if match and os.path.isfile(path):
-            found.setdefault(match.groupdict().get("key"), []).append(os.path.abspath(path))
-    return found
 
 
 def files_of(inputs: Mapping[str, Sequence[str]]) -> dict[str, dict[str, list[str]]]:
