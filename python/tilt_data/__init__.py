@@ -18,17 +18,10 @@ if TYPE_CHECKING:
 
 __all__ = ["Convention", "Explained", "Live", "Query", "Refused", "Scaled", "TiltError", "__version__"]
 __all__ += ["plot", "run", "scale", "series", "span"]
-# The names of each module.
-NAMES = {
-    "convention": ["Convention"],
-    "errors": ["Refused", "TiltError"],
-    "frames": ["Live", "Query", "run", "series", "span"],
-    "plotting": ["plot"],
-    "program": ["Explained"],
-    "scaling": ["Scaled", "scale"],
-    "version": ["__version__"],
-}
-PLACES = {name: module for module, names in NAMES.items() for name in names}
+# The module of each name.
+PLACES = {"Convention": "convention", "Explained": "program", "Live": "frames", "Query": "frames", "Refused": "errors", "Scaled": "scaling"}
+PLACES |= {"TiltError": "errors", "__version__": "version", "plot": "plotting", "run": "frames", "scale": "scaling", "series": "frames"}
+PLACES |= {"span": "frames"}
 
 
 def __getattr__(name: str) -> Any:
