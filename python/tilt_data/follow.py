@@ -1,10 +1,11 @@
 """`tilt-data follow`: a query over rows that keep coming, by sessions, with all that has to be kept in one folder.
 
 What is kept is tied by the cut in its name. A session from one cut to the next writes `part.CUT`, the lines that it decided, `notes.CUT`,
-how far each input is known and how long `output.csv` was before, and last `state.CUT`, the checkpoint of `tilt`: when that stands, the
-session counts. It is given all rows that came, with the cut of each input; the smallest is that of the session. Then the part is put to the end of `output.csv`. Killed in between, it is put there when the command is called again;
-a part without its state is thrown away, and its session made again. `log.CUT` has the lines that came since the cut. Only files of names
-that are written here are ever deleted, and only in a folder that was started here.
+how far each input is known and how long `output.csv` was before, and last `state.CUT`, the checkpoint of `tilt`: when that is there, the
+session counts. It is given all rows that came, with the cut of each input; the smallest is that of the session. Then the part is put to
+the end of `output.csv`. Killed in between, it is put there when the command is called again; a part without its state is deleted, and its
+session made again. `log.CUT` has the lines that came since the cut. Only files of names that are written here are ever deleted, and only
+in a folder that was started here.
 
 The notes also keep what a later call is compared with: the options that make rows of readings, a digest of the lines that were
 taken, and one of the rows that each NAME=FILE handed on. A call that differs is rejected before it changes anything in the folder.
