@@ -4,6 +4,7 @@ from __future__ import annotations
 
 import argparse
 import dataclasses
+import functools
 import heapq
 import itertools
 import os
@@ -294,19 +295,16 @@ def scales_of(words: argparse.Namespace, path: str, convention: TextConvention) 
 def digits_of(path: str, words: argparse.Namespace, convention: TextConvention) -> dict[str, int]:
     """The most digits after the point in each series: the file is read once for it."""
     most: dict[str, int] = {}
-    known: dict[str, int] = {}
+    digits = functools.lru_cache(50000)(lambda text: digits_after_point(text.replace(words.decimal, ".")))
     for _, line, _, name, text in readings_of(path, words):
         if convention.is_missing(text):
             continue
-        if text not in known:
-            if len(known) > 50000:
-                known.clear()
-            try:
-                known[text] = digits_after_point(text.replace(words.decimal, "."))
-            except ValueError as error:
-                raise refused_at(words.file, line, f"{name}: {error}") from error
-        if known[text] > most.get(name, -1):
-            most[name] = known[text]
+        try:
+            count = digits(text)
+        except ValueError as error:
+            raise refused_at(words.file, line, f"{name}: {error}") from error
+        if count > most.get(name, -1):
+            most[name] = count
     return most
 
 

@@ -5,6 +5,7 @@ import contextlib
 import decimal
 import functools
 import re
+from typing import Callable
 
 from .clock import BLANKS, DECIMAL, EXACT
 
@@ -46,16 +47,7 @@ class Scale:
     def __init__(self, scale: int) -> None:
         self.scale = scale
         self.factor = decimal.Decimal(scale)
-        self.known: dict[str, int] = {}
-
-    def whole(self, text: str) -> int:
-        value = self.known.get(text)
-        if value is None:
-            value = self.exact(text)
-            if len(self.known) > 50000:
-                self.known.clear()
-            self.known[text] = value
-        return value
+        self.whole: Callable[[str], int] = functools.lru_cache(50000)(self.exact)
 
     def exact(self, text: str) -> int:
         if DECIMAL.fullmatch(text.strip(BLANKS)) is None:
