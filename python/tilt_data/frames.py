@@ -12,7 +12,7 @@ import pathlib
 import re
 import sys
 import warnings
-from typing import TYPE_CHECKING, Any, Iterable, Iterator, Literal, Mapping, Union, Unpack, get_args
+from typing import TYPE_CHECKING, Any, Iterator, Literal, Mapping, Union, Unpack, get_args
 
 from . import sessions
 from .clock import TIMES, Clock, duration_of, duration_text, moment_text
@@ -106,27 +106,27 @@ class Query:
             return self.by_key(data, by, look, convention, named)
         named = {**frame_inputs(data, self.inputs), **named}
         with scratch() as folder:
-            taken = Inputs(folder, over_of(self.text))
             shape, scale, rows_of = bind(self.inputs, named, convention)
+            own, files, extents = over_of(self.text), parted(named)[0], dict[str, Extent]()
             for name, parts in rows_of:
-                taken.take(name, parts)
-            taken.files |= parted(named)[0]
-            if len(taken.extents) == len(taken.files):
+                extents[name] = Extent(own)
+                files[name] = sessions.put_rows(folder, name, extents[name].texts(parts))
+            if len(extents) == len(files):
                 self.warn_of_scale(convention, scale)
-            text, start, end = self.over_in(taken, look.over)
-            rows = self.rows_of_run(folder, text, {name: taken.files[name] for name in self.inputs})
+            text, start, end = self.over_in(own, extents, files, look.over)
+            rows = self.rows_of_run(folder, text, {name: files[name] for name in self.inputs})
         return shape.frame(look.kept(rows, start, end), look)
 
-    def over_in(self, taken: Inputs, over: Range | None) -> tuple[str, int, int]:
-        """The query and its `over`, or if that is asked for, the query over all ticks in which the inputs have rows. If it isn't said that
-        the `over` of the query is meant, rows that it leaves out are a warning."""
+    def over_in(self, own: Over, extents: dict[str, Extent], files: dict[str, str], over: Range | None) -> tuple[str, int, int]:
+        """The query and its `over`, or if that is asked for, the query over all ticks in which the inputs have rows: those of files alone are
+        read for it. If it isn't said that the `over` of the query is meant, rows that it leaves out are a warning."""
         if over == "data":
-            files = [Extent.of(arrays_in(file)) for name, file in taken.files.items() if name not in taken.extents]
-            start, end = taken.over.around(*needed_edges([*taken.extents.values(), *files], "over='data': "))
-            return taken.over.moved(self.text, start, end), start, end
+            others = [Extent.of(arrays_in(file)) for name, file in files.items() if name not in extents]
+            start, end = own.around(*needed_edges([*extents.values(), *others], "over='data': "))
+            return own.moved(self.text, start, end), start, end
         if over is None:
-            warn(cut_note(taken.over, taken.extents))
-        return self.text, taken.over.start, taken.over.end
+            warn(cut_note(own, extents))
+        return self.text, own.start, own.end
 
     def rows_of_run(self, folder: str, text: str, files: dict[str, str]) -> RowArrays:
         """What the program prints for the query with this text over these files; its own are in the folder."""
@@ -458,26 +458,6 @@ def bind(names: list[str], named: dict[str, Any], convention: Convention) -> tup
     rows = ((name, arrays_of(name, one, clock, convention, convention.scale_of(name) or scale)) for name, one in series.items())
     zone = next((zone_in(one.index) for one in series.values()), None)
     return Shape(clock, zone, int(convention.output_scale or scale)), scale, rows
-
-
-@dataclasses.dataclass
-class Inputs:
-    """Takes the rows of Series to files in a folder, and notes how far they reach."""
-
-    folder: str
-    over: Over
-    files: dict[str, str] = dataclasses.field(default_factory=dict)
-    extents: dict[str, Extent] = dataclasses.field(default_factory=dict)
-
-    def take(self, name: str, parts: Iterable[RowArrays]) -> None:
-        self.extents[name] = extent = Extent(self.over)
-
-        def texts() -> Iterator[bytes]:
-            for part in parts:
-                extent.add(part)
-                yield part.text()
-
-        self.files[name] = sessions.put_rows(self.folder, name, texts())
 
 
 def parted(named: Mapping[str, Any]) -> tuple[dict[str, str], dict[str, Any]]:

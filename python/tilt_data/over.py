@@ -3,7 +3,7 @@ from __future__ import annotations
 
 import dataclasses
 import math
-from typing import Iterable
+from typing import Iterable, Iterator
 
 from .grammar import statements_of
 from .rows import RowArrays
@@ -73,6 +73,12 @@ class Extent:
         self.last = last if self.last is None else max(last, self.last)
         if self.over is not None and (first < self.over.start or last > self.over.end):
             self.outside += int(((part.ends <= self.over.start) | (part.starts >= self.over.end)).sum())
+
+    def texts(self, parts: Iterable[RowArrays]) -> Iterator[bytes]:
+        """The lines of rows, which are counted as they pass."""
+        for part in parts:
+            self.add(part)
+            yield part.text()
 
 
 def edges_of(extents: Iterable[Extent]) -> tuple[int, int] | None:
