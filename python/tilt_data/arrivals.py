@@ -82,8 +82,7 @@ class Arrivals:
             self.changed.notify_all()
 
     def after(self, number: int, seconds: float) -> Missed:
-        """What a client lacks that has the rows up to a number. If that is nothing, it waits for a row, but no longer than so many
-        seconds."""
+        """What a client lacks that has the rows up to a number. If that is nothing, it waits so many seconds at most for a row."""
         with self.arrived:
             self.arrived.wait_for(lambda: self.number > number or not self.reading, seconds)
             rows: list[str] = []

@@ -185,8 +185,7 @@ def whole_index(path: str, low: int, high: int) -> Indexed | None:
 
 def make_index(path: str, folder: str, check: Check = lambda: None) -> Indexed:
     """Makes the index of a series and writes it to the folder. A file that can't be a series raises a Refused with the line; of a plain
-    file only the first and the last row of each block are parsed here. `check` is called for each block, and can raise an exception to
-    stop."""
+    file only the first and the last row of each block are parsed here. `check` is called for each block, and can raise an exception."""
     now, stamp = time.time_ns(), stamp_of(path)
     blocks = blocks_of(path, path, check)
     file, file_stamp = path, stamp

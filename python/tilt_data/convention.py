@@ -211,8 +211,7 @@ class TextConvention(Convention):
         return tick, origin, self.closed or ("left" if like is None else like.closed)
 
     def clock(self, first: int) -> Clock:
-        """The clock that is given; otherwise it starts at the midnight before the first reading, which is a ValueError if there is no such
-        moment."""
+        """The clock that is given; else it starts at the midnight before the first reading, a ValueError if there is no such moment."""
         tick, origin, closed = self.given
         if tick is None:
             raise Refused("how long is a tick? --tick 1s, 1ms, 1min, .. or --like a series that was written before")

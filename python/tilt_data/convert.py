@@ -74,8 +74,7 @@ class Converter:
         return self.start, end, self.value
 
     def finish(self, until: int | None = None) -> Row | None:
-        """The last row. It ends at `until` where that is later than its start, and else as the rule says: a reading of no known age holds
-        for one tick."""
+        """The last row. It ends at `until` where that is later than its start, and else as the rule says, or after one tick."""
         if self.moment is None:
             return None
         later = until if until is not None and self.rule.hold and until > self.start else None

@@ -99,8 +99,7 @@ def undecodable(path: str) -> int | None:
 
 
 def records(path: str, file: Iterable[str], delimiter: str = ",") -> Iterator[tuple[int, list[str]]]:
-    """Each record that isn't empty, with the number of the line on which it ends, from 1. One that is torn is told by the line on which it
-    begins."""
+    """Each record that isn't empty, with the number of the line on which it ends, from 1. A torn one is rejected by its first line."""
     reader = csv.reader(file, delimiter=delimiter, strict=True)
     ended = 0
     try:

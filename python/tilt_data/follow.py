@@ -373,8 +373,7 @@ class Store:
         return found
 
     def bring_up(self, before: int) -> bytes:
-        """Puts the part of the last session to the end of the output, of which it isn't a part yet or is one already, and takes away what
-        sessions before it left. The part."""
+        """Puts the part of the last session to the end of the output, unless it is there, and sweeps up what others left. The part."""
         part = b""
         if self.cut != "begin":
             with open(self.path("part"), "rb") as file:

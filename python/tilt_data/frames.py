@@ -118,8 +118,8 @@ class Query:
         return shape.frame(look.kept(rows, start, end), look)
 
     def over_in(self, own: Over, extents: dict[str, Extent], files: dict[str, str], over: Range | None) -> tuple[str, int, int]:
-        """The query and its `over`, or if that is asked for, the query over all ticks in which the inputs have rows: those of files alone are
-        read for it. If it isn't said that the `over` of the query is meant, rows that it leaves out are a warning."""
+        """The query and its `over`, or if that is asked for, the query over all ticks in which the inputs have rows. If it isn't said that
+        the `over` of the query is meant, rows that it leaves out are a warning."""
         if over == "data":
             others = [Extent.of(arrays_in(file)) for name, file in files.items() if name not in extents]
             start, end = own.around(*needed_edges([*extents.values(), *others], "over='data': "))

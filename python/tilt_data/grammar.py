@@ -32,8 +32,7 @@ class Node:
 
 @dataclasses.dataclass
 class Statement:
-    """A statement: its number from 1, its form (`input`, `let`, `emit`), its name, its expression, its span and its grid with their
-    tokens."""
+    """A statement: its number from 1, its form (`input`, `let`, `emit`), name and expression, and its span and grid with their tokens."""
 
     number: int
     form: str

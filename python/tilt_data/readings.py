@@ -65,8 +65,7 @@ def column(header: list[str], name: str, path: str) -> int:
 
 
 def columns_of(header: list[str], words: argparse.Namespace) -> tuple[int, int | None, int | None, list[int]]:
-    """The columns that the arguments name: of the time, the key, the name of the series, and the values. Two of one name would become one
-    series."""
+    """The columns of the time, the key, the name of the series, and the values. Two of one name would become one series."""
     path = words.file
     if words.time is None:
         raise refused_at(path, 1, f"which column has the times? --time COL; there are: {', '.join(header)}")
@@ -161,8 +160,7 @@ class Written:
 
 
 class Converting:
-    """All series of a file while it is read, by key and name. Each has the scale that is named for it, or that of all others, which has
-    the empty name."""
+    """All series of a file while it is read, by key and name. The empty name has the scale of those that have none of their own."""
 
     def __init__(self, words: argparse.Namespace, convention: TextConvention, outputs: Outputs, scales: dict[str, Scale]) -> None:
         self.words, self.convention, self.outputs, self.scales = words, convention, outputs, scales

@@ -349,8 +349,7 @@ class Listing:
 
 
 def sweep(folder: str, age: float = 0, deep: bool = False) -> None:
-    """Removes half-written files from a folder, if nobody has written to them for `age` seconds; those in the folders of it too if it goes
-    `deep`."""
+    """Removes half-written files that nobody wrote to for `age` seconds from a folder, and from those in it if it goes `deep`."""
     with contextlib.suppress(OSError), os.scandir(folder) as found:
         for one in found:
             if deep and one.is_dir(follow_symlinks=False):
@@ -425,8 +424,7 @@ class Run:
                     self.engine.take_next()
 
     def begin(self, task: Task) -> None:
-        """Starts the task of a part. If there are many keys, parts that are the whole of a key with small files wait until they are enough
-        for a task."""
+        """Starts the task of a part. If there are many keys, small keys of one part wait until they are enough for a task."""
         if len(self.plan.files) < MANY or not self.plan.is_small(task.key):
             self.engine.begin(name_of(task), tasks.make_part, task, self.take_part)
             return
@@ -444,8 +442,7 @@ class Run:
         return Joining(key, tuple(self.files[key]), self.plan.whole_file(key))
 
     def missing(self) -> Iterator[Task]:
-        """The tasks of all parts whose files aren't there. A key whose output is there, joined from the parts that this call would make,
-        has none."""
+        """The tasks of all parts whose files aren't there; none of a key whose output is there, joined from the same parts."""
         for key in self.plan.files:
             digest = self.listing.digest(whole_name(key))
             if digest is not None and digest == parts_digest(task.file for task in self.plan.tasks(key)):

@@ -61,8 +61,7 @@ class Made:
 
 
 class Keys(NamedTuple):
-    """Small keys whose outputs are to be made by one task, one after another: for each its only part, and its whole. All have the same
-    query, since none has cuts."""
+    """Small keys whose outputs are to be made by one task, one after another: for each its only part, and its whole."""
 
     keys: tuple[tuple[Task, Joining], ...]
 

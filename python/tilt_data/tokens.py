@@ -33,8 +33,7 @@ FAULTS |= {"type mismatch": 28, "bad window": 29, "bad domain": 30}
 
 
 class Faulty(Exception):
-    """Why a query is refused: the program's line without `tilt: `, the bytes that are to blame, what was expected, and a cure. It ends the
-    reading of the query."""
+    """Why a query is refused, which ends its reading: the line without `tilt: `, the bytes to blame, what was expected, a cure."""
 
     def __init__(self, line: str, token: Token, expected: str, cure: str = "") -> None:
         super().__init__(line)

@@ -38,8 +38,7 @@ def version_lines() -> list[str]:
 
 
 def described(path: str | None) -> dict[str, str]:
-    """What is known, by `commit`, `toolchain` and `program`. An installed package has it of the program that was installed with it, and a
-    checkout of any program."""
+    """What is known, by `commit`, `toolchain` and `program`: of the program that was installed with a package, in a checkout of any."""
     import tomllib
 
     if RECORD.exists():

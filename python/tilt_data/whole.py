@@ -100,8 +100,7 @@ def digits_of_floats(values: Any, most: int) -> int:
 
 
 def proofs(values: Any, twos: int, fives: int, scale: int) -> tuple[Any, Any]:
-    """Whether it is proved that floats times the scale, which has so many factors 2 and 5 and no others, are whole; and what they are
-    then."""
+    """Whether it is proved that floats times the scale, which has so many factors 2 and 5 and no others, are whole; and what they are."""
     import numpy
 
     size = values.dtype.itemsize

@@ -48,8 +48,7 @@ class Refusal:
     cure: str = ""
 
     def lines(self) -> Iterator[str]:
-        """What is shown: the place and what was expected, the text with a mark below it, and the cure. Signs that would steer a terminal
-        are escaped."""
+        """The place and what was expected, the text with a mark below it, and the cure. Signs that would steer a terminal are escaped."""
         place = ":".join(str(part) for part in (self.file, self.line, self.column) if part is not None)
         yield printable(f"{place}: {self.expected}")
         # Only what is around the place of a long line is shown.
