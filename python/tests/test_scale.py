@@ -69,9 +69,10 @@ def series(seed: int, end: int, step: int, values: int = 1000, begin: int = 0) -
     return rows
 
 
-def planned(query: str | os.PathLike[str], out: str = "out", **inputs: str | list[str]) -> Plan:
+def planned(query: str | os.PathLike[str] | Query, out: str = "out", **inputs: str | list[str]) -> Plan:
     """A plan whose indexes are made."""
-    plan = Plan(Query(query), {name: [files] if isinstance(files, str) else files for name, files in inputs.items()}, out, None)
+    query = query if isinstance(query, Query) else Query(query)
+    plan = Plan(query, {name: [files] if isinstance(files, str) else files for name, files in inputs.items()}, out, None)
     for indexing in plan.unindexed():
         assert tasks.make_indexes(indexing).status == 0
     return plan
@@ -612,13 +613,14 @@ def compare(seed: int, folder: pathlib.Path) -> set[str]:
     draws = draw.draws
     folder.mkdir()
     text = small_query(draw)
-    names = Query(text).inputs
+    query = Query(text)
+    names = query.inputs
     for name in names:
         rows = series(draws.randrange(10**6), 150, draws.choice([2, 5, 30]), draws.choice([1, 2, 50]), -20)
         (folder / f"{name}.csv").write_text(text_of(rows))
     files = {name: str(folder / f"{name}.csv") for name in names}
     wanted = run_program(str(PROGRAM), text, *(f"{name}={file}" for name, file in files.items()), folder=str(folder))
-    plan = planned(text, out=str(folder / "out"), **files)
+    plan = planned(query, out=str(folder / "out"), **files)
     domain = plan.domain
     dense = draws.random() < 0.3
     ticks = sorted({draws.randrange(domain.start - 1, domain.end + 2) for _ in range(1 + draws.randrange(12 if dense else 4))})
