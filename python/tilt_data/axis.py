@@ -4,7 +4,7 @@ from __future__ import annotations
 import datetime
 from typing import Iterator
 
-from .clock import DAY, EPOCH, Clock, moment_text
+from .clock import DAY, EPOCH, Clock, local_moment, moment_text
 from .errors import Refused
 
 # A step of whole months is so many times this; the marks are on the first days of months all the same.
@@ -36,19 +36,10 @@ def shift_at(moment: int, zone: datetime.tzinfo | None) -> int:
     return (local.utcoffset() or datetime.timedelta()) // datetime.timedelta(seconds=1) * 10**9
 
 
-def midnight(local: int, zone: datetime.tzinfo | None) -> int:
-    """The moment of a midnight of local time: the first one of a day that has two. One that the zone leaves out is where it would be by the
-    clocks before that."""
-    if zone is None:
-        return local
-    shift = (EPOCH + datetime.timedelta(seconds=local // 10**9)).replace(tzinfo=zone).utcoffset() or datetime.timedelta()
-    return local - shift // datetime.timedelta(seconds=1) * 10**9
-
-
 def days(begin: int, end: int, step: int, zone: datetime.tzinfo | None) -> list[int]:
     """The midnights of a stretch, one for each step of whole days."""
     first, last = begin + shift_at(begin, zone), end + shift_at(end, zone)
-    found = {midnight(local, zone) for local in range(-(-first // step) * step, last + 1, step)}
+    found = {local_moment(local, zone) for local in range(-(-first // step) * step, last + 1, step)}
     return sorted(moment for moment in found if begin <= moment <= end)
 
 
@@ -57,7 +48,7 @@ def months(begin: int, end: int, count: int, zone: datetime.tzinfo | None) -> li
     local = [EPOCH + datetime.timedelta(seconds=(moment + shift_at(moment, zone)) // 10**9) for moment in (begin, end)]
     first, last = (date.year * 12 + date.month - 1 for date in local)
     firsts = [datetime.datetime(month // 12, month % 12 + 1, 1) for month in range(first // count * count, last + 1, count) if month >= 12]
-    found = [midnight((date - EPOCH).days * DAY, zone) for date in firsts]
+    found = [local_moment((date - EPOCH).days * DAY, zone) for date in firsts]
     return [moment for moment in found if begin <= moment <= end]
 
 

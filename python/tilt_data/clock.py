@@ -113,17 +113,24 @@ class Moments:
             local = datetime.datetime.fromisoformat(minute)
         except ValueError as error:
             raise ValueError(f"{text!r} is no time: there is no such day or minute") from error
-        shift = datetime.timedelta()
+        zone = self.zone if local.tzinfo is None else None
         try:
             if local.tzinfo is not None:
                 local = local.astimezone(datetime.timezone.utc).replace(tzinfo=None)
-            elif self.zone is not None:
-                shift = local.replace(tzinfo=self.zone).utcoffset() or shift
-                if local.replace(tzinfo=self.zone, fold=1).utcoffset() != shift:
-                    raise ValueError(f"the zone {self.zone.key} has this time twice or not at all: write it with its offset, as +01:00")
-            return (local - EPOCH - shift) // datetime.timedelta(microseconds=1) * 1000
+            if zone is not None and local.replace(tzinfo=zone).utcoffset() != local.replace(tzinfo=zone, fold=1).utcoffset():
+                raise ValueError(f"the zone {zone.key} has this time twice or not at all: write it with its offset, as +01:00")
+            return local_moment((local - EPOCH) // datetime.timedelta(microseconds=1) * 1000, zone)
         except OverflowError as error:
             raise ValueError(f"{text!r} is no time: with its offset it lies outside of the years 1 to 9999") from error
+
+
+def local_moment(local: int, zone: datetime.tzinfo | None) -> int:
+    """The moment of a local time in nanoseconds: the first if the zone has two. One that the zone leaves out is where it would be by the
+    clocks before that."""
+    if zone is None:
+        return local
+    shift = (EPOCH + datetime.timedelta(seconds=local // 10**9)).replace(tzinfo=zone).utcoffset() or datetime.timedelta()
+    return local - shift // datetime.timedelta(seconds=1) * 10**9
 
 
 def moment_text(moment: int, digits: int, zone: datetime.tzinfo | None = None) -> str:

@@ -6,7 +6,7 @@ import datetime
 import re
 from typing import Any, Iterator
 
-from .clock import TIMES, Clock, duration_of, moment_text, zone_of
+from .clock import DAY, EPOCH, TIMES, UNITS, Clock, duration_of, local_moment, moment_text, zone_of
 from .convert import row_text
 from .errors import Refused
 from .files import HEADER_LINE, Notes, Outputs, Row, check_replaceable, notes_of_like, notes_path, same_file
@@ -114,11 +114,8 @@ def day_at(moment: int, zone: str | None) -> datetime.date:
 
 
 def moment_on(day: datetime.date, minutes: int, zone: str | None) -> int:
-    """The moment at which the clock of the zone shows so many minutes after midnight. Where it is put forward over that, the moment is
-    the one that would have been; where it shows it twice, the first."""
-    local = datetime.datetime.combine(day, datetime.time(), zone_of(zone) or datetime.timezone.utc) + datetime.timedelta(minutes=minutes)
-    since = local - datetime.datetime(1970, 1, 1, tzinfo=datetime.timezone.utc)
-    return since // datetime.timedelta(microseconds=1) * 1000
+    """The moment at which the clock of the zone shows so many minutes after midnight."""
+    return local_moment((day.toordinal() - EPOCH.toordinal()) * DAY + minutes * UNITS["min"], zone_of(zone))
 
 
 def edge(clock: Clock, moment: int) -> int:
