@@ -85,7 +85,7 @@ def test_buckets_have_all_rows_in_order_and_their_extremes():
     assert max(end - begin for begin, end in buckets) <= BUCKET and len(buckets) < len(rows) / 40
     for at, (begin, end) in enumerate(buckets):
         values = [value for _, _, value in rows[begin:end]]
-        found = summary.buckets[at]
+        found = summary[at]
         assert (found.start, found.end, found.rows) == (rows[begin][0], rows[end - 1][1], end - begin)
         assert (found.first, found.last) == (values[0], values[-1])
         assert (found.first - found.below, found.first + found.above) == (min(values), max(values))

@@ -91,23 +91,20 @@ class Bucket(NamedTuple):
     above: int
 
 
-class Summary:
+class Summary(list[Bucket]):
     """The buckets of a series."""
-
-    def __init__(self) -> None:
-        self.buckets: list[Bucket] = []
 
     def take(self, block: Block) -> None:
         for begin, end in block.buckets():
             values = block.values[begin:end]
             first, least, greatest = values[0], min(values), max(values)
             extent = block.starts[begin], block.ends[end - 1]
-            self.buckets.append(Bucket(*extent, end - begin, first, values[-1], first - least, greatest - first))
+            self.append(Bucket(*extent, end - begin, first, values[-1], first - least, greatest - first))
 
     def text(self) -> str:
         """Of each bucket how far it starts after the one before, its length, its rows, how far its first value is above the last one before
         it, by how much its least and its greatest value differ from its first, and by how much the last is more than that."""
-        starts, ends, counts, firsts, lasts, below, above = zip(*self.buckets)
+        starts, ends, counts, firsts, lasts, below, above = zip(*self)
         changes = [0, *map(operator.sub, firsts[1:], lasts)]
         return packed([*times_of(starts, ends), counts, changes, below, above, list(map(operator.sub, lasts, firsts))])
 
@@ -122,9 +119,9 @@ def blocks_of(rows: Iterable[Plain]) -> Iterator[Block]:
 def fields_of(blocks: list[tuple[int, int, int]], summary: Summary, episodes: list[tuple[int, int]]) -> dict[str, Any]:
     """What the page has to know of a series beside its texts: of each block its rows, first start and first value; its least value; and of
     its episodes, if it has any, how many there are and the first start. Numbers that JavaScript doesn't read exactly are texts."""
-    least = min((bucket.first - bucket.below for bucket in summary.buckets), default=0)
+    least = min((bucket.first - bucket.below for bucket in summary), default=0)
     return {
-        "rows": sum(bucket.rows for bucket in summary.buckets),
+        "rows": sum(bucket.rows for bucket in summary),
         "base": str(least),
         "blocks": [[rows, str(start), str(value)] for rows, start, value in blocks],
         "episodes": [len(episodes), str(episodes[0][0])] if episodes else None,
