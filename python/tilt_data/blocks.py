@@ -262,11 +262,12 @@ def fault_in(path: str, rows: bytes, line: int, end: int | None) -> Refused:
 def times_of(line: bytes) -> tuple[int, int] | None:
     """The start and the end in a line; None if it is no row that the program can take."""
     row = ROW.fullmatch(line)
-    # Python doesn't read thousands of digits.
-    if row is None or len(line) > 4000:
+    try:
+        times = (int(row[1]), int(row[2])) if row is not None else None
+    except ValueError:
+        # More digits than Python takes.
         return None
-    times = int(row[1]), int(row[2])
-    return times if max(abs(times[0]), abs(times[1])) <= TIMES else None
+    return times if times is not None and max(abs(times[0]), abs(times[1])) <= TIMES else None
 
 
 # The rows of a stretch

@@ -285,8 +285,11 @@ def shown(line: bytes, most: int | None = None) -> str:
 
 
 def number(text: str, least: int, greatest: int, what: str) -> int:
-    # Python doesn't read thousands of digits.
-    found = int(text) if len(text) < 4000 else greatest + 1
+    try:
+        found = int(text)
+    except ValueError:
+        # More digits than Python reads.
+        found = greatest + 1
     if not least <= found <= greatest:
         raise BadLine(f"{what} within {least} to {greatest} was expected")
     return found
