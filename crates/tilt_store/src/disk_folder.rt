@@ -148,8 +148,8 @@ fn sync_file<R: Files>(files: &R, path: &str) -> io::Result<bool> {
     }
 }
 
-// Waits until the disk has what it may not have yet of a file in a folder, and returns what it may not have then: the entry of a file that
-// isn't there comes later.
+// Waits until the disk has what it may not have yet of a file in a folder. It returns what the disk may not have then: a file that isn't
+// there can be made later.
 fn sync_all<R: Files>(
     files: &R,
     path: &str,
