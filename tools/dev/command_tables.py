@@ -23,6 +23,8 @@ TOP = next(folder for folder in pathlib.Path(__file__).resolve().parents if (fol
 # What stands for a value in a synopsis, by its shape. A flag has none.
 VALUES = {"Flag": "", "Text": "FILE", "Times": "TIME,TIME,..", "RisingTimes": "TIME,TIME,..", "Numbers": "PART,PART,..", "Cuts": "CUTS"}
 VALUES["Ticks"] = "N"
+# Of an option whose text is no file.
+NAMED = {"--folder": "FOLDER"}
 
 BIND = "NAME=FILE .."
 
@@ -126,9 +128,14 @@ def tables() -> Tables:
     return Tables(options, commands, shapes(live), dict(zip(shapes(live), does)))
 
 
+def value_name(option: str, options: dict[str, str]) -> str:
+    """What the value of an option is called, if it has one."""
+    return NAMED.get(option, VALUES[options[option]])
+
+
 def with_value(option: str, options: dict[str, str]) -> str:
-    """An option and what stands for its value."""
-    return f"{option} {VALUES[options[option]]}".rstrip()
+    """An option and what its value is called."""
+    return f"{option} {value_name(option, options)}".rstrip()
 
 
 def call(row: Command, options: dict[str, str]) -> str:
@@ -218,7 +225,7 @@ def roff_value(value: str) -> str:
 
 
 def roff_option(option: str, options: dict[str, str], optional: bool) -> list[str]:
-    value = roff_value(VALUES[options[option]])
+    value = roff_value(value_name(option, options))
     if not optional:
         return [f".B {roff(option)}", *([f".IR {value}" if "\\" in value else f".I {value}"] if value else [])]
     if not value:
@@ -288,7 +295,8 @@ def undescribed(found: Tables) -> list[str]:
     """What is wrong with the options that docs/tilt-live.1 describes: they have to be those of the table, in their order."""
     options = (TOP / "docs/tilt-live.1").read_text().partition("\n.SH OPTIONS\n")[2].partition("\n.SH ")[0]
     described = re.findall(r"^\.TP\n\.BI? (.+)$", options, re.M)
-    wanted = [f'{roff(option)} " {VALUES[shape]}"' if VALUES[shape] else roff(option) for option, shape in found.live.items()]
+    values = {option: value_name(option, found.live) for option in found.live}
+    wanted = [f'{roff(option)} " {value}"' if value else roff(option) for option, value in values.items()]
     return [] if described == wanted else [f"docs/tilt-live.1 describes {', '.join(described)}, and LIVE_OPTIONS has {', '.join(wanted)}"]
 
 
