@@ -1,0 +1,45 @@
+// Texts in units, and the queries over whole numbers that they are.
+use crate::texts::{TEXTS, TextCase};
+use std::alloc::Global;
+use std::test::Fail;
+use tilt_lexer::Name;
+use tilt_unit_text::{InputScale, UnitFault, UnitQuery, read_in_units};
+use tilt_units::Scale;
+
+fn scales_of(alloc: Global, given: &[(&str, u64)]) -> Result<Vec<InputScale>, Fail> {
+    let mut scales = Vec::new(alloc);
+    for (name, parts) in given {
+        let name = Name::read(alloc, name.as_bytes())?.ok_or("no name")?;
+        let scale = Scale::new(*parts).ok_or("no scale")?;
+        scales.push(InputScale { name, scale })?;
+    }
+    Ok(scales)
+}
+
+fn read(alloc: Global, case: &TextCase) -> Result<Result<UnitQuery, UnitFault>, Fail> {
+    let (text, given, _) = case;
+    let scales = scales_of(alloc, given)?;
+    Ok(read_in_units(alloc, text.as_bytes(), &scales))
+}
+
+// What the last definition represents, and its expression; or the fault.
+fn show(alloc: Global, case: &TextCase) -> Result<String, Fail> {
+    match read(alloc, case)? {
+        Ok(query) => {
+            let quantity = query.quantities.last().ok_or("no source")?;
+            let def = query.core.defs().last().ok_or("no definition")?;
+            Ok(format!(in alloc; "{quantity:?} {:?}", def.body)?)
+        }
+        Err(fault) => Ok(format!(in alloc; "{fault:?}")?),
+    }
+}
+
+#[test]
+fn texts_are_queries_over_whole_numbers(rt: HostRuntime) -> Result<(), Fail> {
+    let alloc = rt.alloc();
+    for case in TEXTS {
+        let shown = show(alloc, case)?;
+        assert_eq!(rt; shown.as_str(), case.2);
+    }
+    Ok(())
+}

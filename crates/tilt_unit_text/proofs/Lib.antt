@@ -1,0 +1,14 @@
+pub mod Answers
+pub mod Bounds
+pub mod Chains
+pub mod Frames
+pub mod Literals
+pub mod Noting
+pub mod Numbered
+pub mod Ones
+pub mod Placed
+pub mod PlacedQueries
+pub mod ReadsKept
+pub mod Split
+pub mod WholeQueries
+pub mod WholeTexts

@@ -1,0 +1,145 @@
+// From a text in units to the query over whole numbers that it is.
+ghost use Rattle.std.specs.Prelude.{◌≡◌, ◌^◌, ◌<◌, ◌++◌, List, All, IfOk, MatchResult, Result};
+ghost use Rattle.tilt_lexer.specs.Tokens.{IsSound};
+ghost use Rattle.tilt_syntax.specs.Query.{IsQueryOf, kinds};
+ghost use Rattle.tilt_syntax.specs.Tree.{StatementTree};
+ghost use Rattle.tilt_types.specs.Checked.{core_of};
+ghost use Rattle.tilt_unit_text.specs.Numbers.{IsWritten};
+ghost use Rattle.tilt_unit_text.specs.Places.{counted, query_with};
+ghost use Rattle.tilt_unit_text.specs.Points.{IsToken};
+ghost use Rattle.tilt_unit_text.specs.Reading.{Gives, GivesAnswer, GivesReading, Reads};
+ghost use Rattle.tilt_unit_text.specs.Units.{UnitParts, checked_in_units, core_in_units, parts_of, query_in_units};
+ghost use Rattle.tilt_unit_text.specs.declared.fault.UnitFault.{UnitFault};
+
+use crate::definitions::unit_definitions;
+use crate::fault::UnitFault;
+use crate::input_scale::InputScale;
+use crate::noted::note_numbers;
+use crate::places::{count_numbers, query_fault};
+use crate::points::{fault_in_text, find_points, without_points};
+use crate::scales::scales_of;
+use crate::unit_query::UnitQuery;
+use crate::whole::{push_names, whole_query};
+use crate::written::Written;
+use std::alloc::{AllocError as OutOfMemory, Global};
+use tilt_core::Core;
+use tilt_lexer::{Name, Token, lex};
+use tilt_syntax::{Query, parse};
+use tilt_types::check;
+use tilt_units::translate;
+
+/// The query over whole numbers that a text in units is, if its inputs have these scales; or the first fault. Of the first of these
+/// causes there is a fault. `BadByte`, `BigNumber`: the text without its points has no tokens, at its first faulty place. `BadPoint`,
+/// `ManyDecimals`: a point isn't between two digits of a number, or too many digits come after it, at the first point with a fault.
+/// `Syntax`: the text without its points isn't a query. `TicksWithPoint`: a number of ticks has a point, in the order of statements.
+/// `IllFormed`: the query isn't well formed. `NoScale`: no scale is given for an input, in the order of inputs. `Scale`: the query has
+/// no translation. `WholeTooLarge`: an expression has too many nodes over whole numbers. Scales of other names than the inputs' are
+/// not read. Memory is taken for all tokens of the text.
+pub fn read_in_units(
+    alloc: Global,
+    text: &[u8],
+    scales: &[InputScale],
+) -> Result<UnitQuery, UnitFault>
+    ensures reads { GivesReading parts_of scales.now text.now result }
+
+    // Nothing else is: no other query, and no other fault.
+    ensures only { (answer : Result UnitParts UnitFault) → Reads scales.now text.now answer → Gives parts_of result answer }
+{
+    let points = find_points(alloc, text)?;
+    let plain = without_points(alloc, text)?;
+    match lex(alloc, &plain) {
+        Err(fault) => Err(fault_in_text(&points, fault)),
+        Ok(tokens) => answer(alloc, scales, &points, tokens),
+    }
+}
+
+// The answer for the tokens of a text.
+fn answer(
+    alloc: Global,
+    scales: &[InputScale],
+    points: &[u64],
+    tokens: Vec<Token>,
+) -> Result<UnitQuery, UnitFault>
+    requires small { All (IsToken 9223372036854775807) tokens.items }
+    requires few { All (λ point. point < 2 ^ 63) points.now }
+    requires sound { All (λ token. IsSound token.kind) tokens.items }
+    ensures { GivesAnswer parts_of scales.now points.now tokens.items result }
+{
+    let numbers = note_numbers(alloc, &tokens, points)?;
+    let query = parse(alloc, &tokens)?;
+    let places = places_of(alloc, tokens)?;
+    query_in_units(alloc, scales, &numbers, &query, &places)
+}
+
+// The query of the tokens, with each number as its count.
+fn places_of(alloc: Global, tokens: Vec<Token>) -> Result<Query, UnitFault>
+    requires sound { All (λ token. IsSound token.kind) tokens.items }
+    requires is_query { (places : List StatementTree) × IsQueryOf (counted 0 (kinds tokens.items)) places }
+    ensures { MatchResult result (λ places. IsQueryOf (counted 0 (kinds tokens.items)) places) (λ fault. fault ≡ UnitFault.OutOfMemory) }
+{
+    let counts = count_numbers(alloc, tokens)?;
+    Ok(parse(alloc, &counts)?)
+}
+
+// What a query is over whole numbers.
+fn query_in_units(
+    alloc: Global,
+    scales: &[InputScale],
+    numbers: &[Written],
+    query: &Query,
+    places: &Query,
+) -> Result<UnitQuery, UnitFault>
+    requires written { All IsWritten numbers.now }
+    requires placed { query_with numbers.now places.now ≡ query.now }
+    ensures { Gives parts_of result (query_in_units scales.now numbers.now query.now places.now) }
+{
+    match query_fault(numbers, places.statements()) {
+        Some(fault) => Err(fault),
+        None => checked_in_units(alloc, scales, numbers, query, places),
+    }
+}
+
+// What a query without a fault in its numbers of ticks is over whole numbers.
+fn checked_in_units(
+    alloc: Global,
+    scales: &[InputScale],
+    numbers: &[Written],
+    query: &Query,
+    places: &Query,
+) -> Result<UnitQuery, UnitFault>
+    requires written { All IsWritten numbers.now }
+    requires placed { query_with numbers.now places.now ≡ query.now }
+    ensures { Gives parts_of result (checked_in_units scales.now numbers.now query.now places.now) }
+{
+    let core = check(alloc, query)?;
+    core_in_units(alloc, scales, numbers, places, &core)
+}
+
+// What a core is over whole numbers, whose query with each number as its count is this.
+fn core_in_units(
+    alloc: Global,
+    scales: &[InputScale],
+    numbers: &[Written],
+    places: &Query,
+    core: &Core,
+) -> Result<UnitQuery, UnitFault>
+    requires written { All IsWritten numbers.now }
+    requires placed { core.now ≡ core_of (query_with numbers.now places.now) }
+    ensures { Gives parts_of result (core_in_units scales.now numbers.now places.now core.now) }
+{
+    let parts = scales_of(alloc, scales, core.inputs())?;
+    let names = source_names(alloc, core)?;
+    let units = unit_definitions(alloc, &names, numbers, places.statements(), core.defs())?;
+    let translated = translate(alloc, &parts, &units)?;
+    whole_query(alloc, core, translated)
+}
+
+// The names of the sources: the inputs in order, and after them the definitions that have names.
+fn source_names(alloc: Global, core: &Core) -> Result<Vec<Name>, OutOfMemory>
+    ensures { IfOk result (λ names. names.items ≡ core.now.inputs ++ core.now.names) }
+{
+    let mut names = Vec::new(alloc);
+    push_names(&mut names, core.inputs())?;
+    push_names(&mut names, core.names())?;
+    Ok(names)
+}
