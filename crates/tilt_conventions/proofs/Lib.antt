@@ -3,6 +3,7 @@ pub mod Delayed
 pub mod Listing
 pub mod Numbering
 pub mod Prompt
+pub mod Resuming
 pub mod Showing
 pub mod Taking
 pub mod Telling

@@ -3,6 +3,7 @@ ghost use Rattle.std.specs.Prelude.{◌≡◌, ◌≤◌, ◌+◌, ◌++◌, tru
 ghost use Rattle.std.specs.Option.{ForSome};
 ghost use Rattle.tilt_base.specs.declared.limits.TheConstants.{T};
 ghost use Rattle.std.specs.Vec.{vec_capacity};
+ghost use Rattle.tilt_conventions.specs.Resumable.{fits};
 ghost use Rattle.tilt_conventions.specs.Laws.{HoldsATick};
 ghost use Rattle.tilt_conventions.specs.declared.turn.Turn.TheVariants as turn;
 ghost use Rattle.tilt_conventions.specs.Steps.{is_reading_time, last_updates, nothing_kept, taken, turn_fault};
@@ -10,6 +11,7 @@ ghost use Rattle.tilt_conventions.specs.Steps.{is_reading_time, last_updates, no
 use crate::fault::{TakeError, TurnFault};
 use crate::fault_of::{is_in_range, is_refused, is_tie, latest_after, placed, turn_start, unended};
 use crate::handing::{end_at_last, hand_on, hand_on_due, raise, start_of};
+use crate::kept::KeptConverter;
 use crate::options::{Options, Ties};
 use crate::turn::{Reading, Turn};
 use std::alloc::AllocError as OutOfMemory;
@@ -46,6 +48,36 @@ impl Converter {
             mark: -T,
             latest: None,
             skipped: 0,
+        }
+    }
+
+    /// The converter that keeps this. Whatever turns come, it does with them what the converter did that it was kept of. A maximum age
+    /// is at least one tick.
+    pub fn resume(options: Options, kept: &KeptConverter) -> Converter
+        requires ages { HoldsATick options.convention }
+        requires fit { fits kept.now ≡ true }
+        ensures options { options_of result ≡ options }
+        ensures kept { kept_by result ≡ kept.now }
+    {
+        Converter {
+            options,
+            edge: kept.edge,
+            mark: kept.mark,
+            latest: kept.latest,
+            skipped: kept.skipped,
+        }
+    }
+
+    /// What it keeps, so that another converter can go on from it.
+    pub fn kept(&self) -> KeptConverter
+        ensures kept { result ≡ kept_by self.now }
+        ensures fit { fits (kept_by self.now) ≡ true }
+    {
+        KeptConverter {
+            edge: self.edge,
+            mark: self.mark,
+            latest: self.latest,
+            skipped: self.skipped,
         }
     }
 

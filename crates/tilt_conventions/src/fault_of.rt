@@ -24,7 +24,7 @@ pub(crate) fn is_in_range(ties: Ties, latest: Option<Reading>, turn: Turn) -> bo
 }
 
 // Whether a tick can be that of a reading.
-fn is_reading_time(tick: i64) -> bool
+pub(crate) fn is_reading_time(tick: i64) -> bool
     ensures { result ≡ is_reading_time tick }
 {
     -T < tick && tick <= T

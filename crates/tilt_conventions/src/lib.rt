@@ -18,6 +18,9 @@
 //! functions of `law` connect the two, for every list of turns. The rows of the feed that takes the updates are those that the readings
 //! mean, up to the feed's watermark. Every update is allowed, and what holds at a tick is what the last reading up to it says.
 //!
+//! `Converter::kept` has all that it keeps, as plain data, and `Converter::resume` makes a converter that keeps it. By the clauses of both,
+//! a converter goes on in a new process as the one that was left would have done.
+//!
 //! A turn is late if it starts before the one before it: a reading starts at the tick before its own, where its row does. All of this
 //! depends on the turns alone, and on no clock. Nothing here reads or writes.
 #![tactic(auto)]
@@ -26,6 +29,7 @@ mod converter;
 mod fault;
 mod fault_of;
 mod handing;
+mod kept;
 mod law;
 mod moving;
 mod options;
@@ -33,6 +37,7 @@ mod turn;
 
 pub use converter::Converter;
 pub use fault::{TakeError, TurnFault};
+pub use kept::{KeptConverter, fits};
 pub use law::{readings_hold, rows_are_those_of_readings, turns_are_kept};
 pub use options::{Convention, Options, Ties};
 pub use turn::{Reading, Turn};

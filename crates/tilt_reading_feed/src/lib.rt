@@ -12,16 +12,21 @@
 //! are those that its readings mean, in the lines that were taken, up to its watermark. When nothing more comes, its closed rows are those
 //! of all these readings.
 //!
+//! `ReadingFeed::kept` has all that it keeps, as plain data, and `ReadingFeed::resume` makes a feed that keeps it. By the clauses of both,
+//! a feed goes on in a new process as the one that was left would have done.
+//!
 //! All of this depends on the lines alone, and on no clock. Nothing here reads or writes.
 #![tactic(auto)]
 
 mod fault;
 mod fault_of;
+mod kept;
 mod law;
 mod reading_feed;
 mod room;
 mod turning;
 
 pub use fault::{FeedFault, TakeError};
+pub use kept::KeptReadings;
 pub use law::{lines_are_turns, rows_are_those_of_lines};
 pub use reading_feed::ReadingFeed;

@@ -1,10 +1,12 @@
 // A feed whose inputs take readings.
-ghost use Rattle.std.specs.Prelude.{◌≤◌, ◌<◌, ◌^◌, length};
+ghost use Rattle.std.specs.Prelude.{◌≤◌, ◌<◌, ◌^◌, length, true};
+ghost use Rattle.std.specs.List.{AllByRecursion};
 ghost use Rattle.std.specs.Vec.{vec_capacity};
 
 use crate::fault::{FeedFault, TakeError};
 use crate::fault_of::{known_fault, readings_fault};
-use crate::room::{make_converters, reserve_turns};
+use crate::kept::KeptReadings;
+use crate::room::{keep_converters, make_converters, reserve_turns, resume_converters};
 use crate::turning::{finish_all, read_each, turn_all};
 use std::alloc::{AllocError as OutOfMemory, Global};
 use tilt_conventions::{Converter, Options, Turn};
@@ -24,6 +26,8 @@ pub struct ReadingFeed {
 
 impl ReadingFeed {
     ghost use Rattle.std.specs.Prelude.{◌≡◌, ◌++◌, if◌then◌else◌, is_ok, IfOk, slice_get, option_map};
+    ghost use Rattle.tilt_conventions.specs.Resumable.{fits};
+    ghost use Rattle.tilt_reading_feed.specs.Kept.{bare_kept, options_kept, with_options};
     ghost use Rattle.tilt_reading_feed.specs.Laws.{HoldTicks, nothing_read};
     ghost use Rattle.tilt_reading_feed.specs.Machine.{IsTaken, feed_kept};
     ghost use Rattle.tilt_reading_feed.specs.Steps.{end_fault, feed_finished, line_fault, line_taken};
@@ -41,6 +45,45 @@ impl ReadingFeed {
             converters,
             updates,
             finished: false,
+        })
+    }
+
+    /// The feed that keeps this, of inputs whose readings mean this, in the order of the inputs. Whatever lines come, it does with them
+    /// what the feed did that it was kept of. A maximum age is at least one tick. `OutOfMemory` comes if memory runs out, and for no
+    /// other reason.
+    pub fn resume(
+        alloc: Global,
+        options: &[Options],
+        kept: &KeptReadings,
+    ) -> Result<ReadingFeed, OutOfMemory>
+        requires few { length options.now < 2 ^ 32 }
+        requires ages { HoldTicks options.now }
+        requires each { length kept.now.inputs ≡ length options.now }
+        requires fit { AllByRecursion (λ kept. fits kept ≡ true) kept.now.inputs }
+        ensures { IfOk result (λ feed. feed_kept feed ≡ with_options options.now kept.now) }
+    {
+        let updates = Vec::with_capacity(alloc, 4)?;
+        let converters = resume_converters(alloc, options, &kept.inputs)?;
+        Ok(ReadingFeed {
+            converters,
+            updates,
+            finished: kept.finished,
+        })
+    }
+
+    /// What it keeps, so that another feed with the same options can go on from it. `OutOfMemory` comes if memory runs out, and for no
+    /// other reason.
+    pub fn kept(&self, alloc: Global) -> Result<KeptReadings, OutOfMemory>
+        ensures kept { IfOk result (λ kept. kept ≡ bare_kept (feed_kept self.now)) }
+        ensures same { IfOk result (λ kept. with_options (options_kept (feed_kept self.now)) kept ≡ feed_kept self.now) }
+        ensures each { IfOk result (λ kept. length kept.inputs ≡ length (feed_kept self.now).inputs) }
+        ensures few { length (feed_kept self.now).inputs < 2 ^ 32 }
+        ensures fit { IfOk result (λ kept. AllByRecursion (λ kept. fits kept ≡ true) kept.inputs) }
+    {
+        let inputs = keep_converters(alloc, &self.converters)?;
+        Ok(KeptReadings {
+            inputs,
+            finished: self.finished,
         })
     }
 

@@ -1,7 +1,9 @@
 // Turns that aren't taken.
 use std::test::Fail;
 use tilt_base::T;
-use tilt_conventions::{Convention, Converter, Options, Reading, TakeError, Ties, Turn, TurnFault};
+use tilt_conventions::{
+    Convention, Converter, Options, Reading, TakeError, Ties, Turn, TurnFault, fits,
+};
 
 const HOLD: Options = Options {
     convention: Convention::Hold { max_age: None },
@@ -47,6 +49,22 @@ fn times_have_a_range(rt: HostRuntime) -> Result<(), Fail> {
     assert_eq!(rt; converter.fault(reading(T + 1)), far);
     assert_eq!(rt; converter.fault(Turn::KnownUpTo { watermark: T }), None);
     assert_eq!(rt; converter.fault(Turn::KnownUpTo { watermark: T + 1 }), far);
+    Ok(())
+}
+
+#[test]
+fn what_is_kept_has_a_reading_within_the_range(rt: HostRuntime) -> Result<(), Fail> {
+    let mut converter = Converter::new(HOLD);
+    let mut updates = Vec::new(rt.alloc());
+    assert!(rt; fits(&converter.kept()));
+    converter.take(reading(T), &mut updates)?;
+    let mut kept = converter.kept();
+    assert!(rt; fits(&kept));
+    kept.latest = Some(Reading {
+        tick: T + 1,
+        value: None,
+    });
+    assert!(rt; !fits(&kept));
     Ok(())
 }
 

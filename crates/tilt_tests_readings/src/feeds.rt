@@ -279,6 +279,65 @@ fn the_end_hands_on_what_waits(rt: HostRuntime) -> Result<(), Fail> {
     Ok(())
 }
 
+// The same feed in two parts, between two readings of one tick: the second one goes on with the reading that waits.
+#[test]
+fn a_feed_goes_on_from_what_was_kept(rt: HostRuntime) -> Result<(), Fail> {
+    let mut events = Vec::new(rt.alloc());
+    let mut first = ReadingFeed::new(rt.alloc(), &[LAST])?;
+    for (tick, value) in [(4321, 3), (4322, 4), (4323, 5), (4323, 6)] {
+        first.take(&[reading(0, tick, value)], None, &mut events)?;
+    }
+    let kept = first.kept(rt.alloc())?;
+    if kept.inputs.len() != 1 {
+        return Err("one input was expected".into());
+    }
+    let mut second = ReadingFeed::resume(rt.alloc(), &[LAST], &kept)?;
+    second.take(&[reading(0, 4327, 7)], None, &mut events)?;
+    second.finish(&mut events)?;
+    let expected = [
+        known(0, 4320),
+        row(0, 4320, 4321, 3),
+        row(0, 4321, 4322, 4),
+        row(0, 4322, 4323, 6),
+        known(0, 4326),
+        row(0, 4326, 4327, 7),
+        Event::Finish,
+    ];
+    assert_eq!(rt; events.as_slice(), expected.as_slice());
+    assert_eq!(rt; second.skipped(0), Some(1));
+    Ok(())
+}
+
+// A value that holds goes on too, and ends by its age. A finished feed stays finished.
+#[test]
+fn a_value_holds_in_a_feed_that_goes_on(rt: HostRuntime) -> Result<(), Fail> {
+    let mut events = Vec::new(rt.alloc());
+    let mut first = ReadingFeed::new(rt.alloc(), &[TEN])?;
+    first.take(&[reading(0, 21613, 6)], None, &mut events)?;
+    let kept = first.kept(rt.alloc())?;
+    if kept.inputs.len() != 1 {
+        return Err("one input was expected".into());
+    }
+    let mut second = ReadingFeed::resume(rt.alloc(), &[TEN], &kept)?;
+    second.take(&[reading(0, 21632, 7)], None, &mut events)?;
+    second.finish(&mut events)?;
+    let expected = [
+        value(0, 21612, 6),
+        no_value(0, 21622),
+        value(0, 21631, 7),
+        no_value(0, 21641),
+        Event::Finish,
+    ];
+    assert_eq!(rt; events.as_slice(), expected.as_slice());
+    let kept = second.kept(rt.alloc())?;
+    if kept.inputs.len() != 1 {
+        return Err("one input was expected".into());
+    }
+    let third = ReadingFeed::resume(rt.alloc(), &[TEN], &kept)?;
+    assert_eq!(rt; third.fault(&[], None), Some(FeedFault::Finished));
+    Ok(())
+}
+
 #[test]
 fn the_first_fault_of_a_line(rt: HostRuntime) -> Result<(), Fail> {
     let feed = ReadingFeed::new(rt.alloc(), &[HOLD, HOLD])?;
