@@ -56,9 +56,9 @@ named_columns time name value fields = do
 
 -- the columns of a header with these fields
 abbrev pub columns_said : Titles → List Source → List (List ℕ) → Result Layout HeaderFault
-columns_said (titles.Named time name value) sources fields = named_columns time.now name.now value.now fields
+columns_said (titles.Named time name value) sources fields = named_columns time.items name.items value.items fields
 columns_said (titles.OfInputs time) sources fields = do
-  time ← column_of column.Time time.now fields
+  time ← column_of column.Time time.items fields
   places ← input_columns fields 0 sources
   Ok (record { count = length fields; time = time; values = OfInputs places })
 

@@ -16,11 +16,11 @@ use std::alloc::{AllocError as OutOfMemory, Global};
 pub(crate) fn read_columns(
     alloc: Global,
     row: &ByteRecord,
-    titles: Titles<'_>,
+    titles: &Titles,
     sources: &[Source],
 ) -> Result<Columns, ReadHeaderFault>
     requires { length sources.now < 2 ^ 32 }
-    ensures { Gives result (columns_said titles.entry sources.now (fields_of row.now)) }
+    ensures { Gives result (columns_said titles.now sources.now (fields_of row.now)) }
 {
     match titles {
         Titles::Named { time, name, value } => Ok(read_named_columns(row, time, name, value)?),

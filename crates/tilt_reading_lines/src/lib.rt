@@ -26,7 +26,7 @@ mod rules;
 mod tick;
 mod value;
 
-pub use columns::{Columns, Titles};
+pub use columns::{Columns, Titles, ValueColumns};
 pub use fault::{Column, HeaderFault, LineFault, ReadHeaderFault, ReadLineFault};
 pub use law::ticks_hold_their_moments;
 pub use reader::ReadingReader;

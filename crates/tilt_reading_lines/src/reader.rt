@@ -42,11 +42,11 @@ impl ReadingReader {
     pub fn read_header(
         &mut self,
         line: &[u8],
-        titles: Titles<'_>,
+        titles: &Titles,
         sources: &[Source],
     ) -> Result<Columns, ReadHeaderFault>
         requires { length sources.now < 2 ^ 32 }
-        ensures said { header.Gives result (header_said (delimiter_of self.old) titles.entry sources.now line.now) }
+        ensures said { header.Gives result (header_said (delimiter_of self.old) titles.now sources.now line.now) }
         ensures delimiter { delimiter_of self.new ≡ delimiter_of self.old }
     {
         if !read_fields(self.alloc, self.delimiter, line, &mut self.row)? {

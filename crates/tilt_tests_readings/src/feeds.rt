@@ -110,7 +110,7 @@ fn add_source(
 fn read_all(
     alloc: Global,
     header: &[u8],
-    titles: Titles<'_>,
+    titles: &Titles,
     sources: &[Source],
     lines: &[&[u8]],
     feed: &mut ReadingFeed,
@@ -140,12 +140,13 @@ fn a_column_of_each_input(rt: HostRuntime) -> Result<(), Fail> {
     add_source(rt.alloc(), b"power", 1, &mut sources)?;
     let mut feed = ReadingFeed::new(rt.alloc(), &[HOLD, TEN])?;
     let mut events = Vec::new(rt.alloc());
-    let titles = Titles::OfInputs { time: b"time" };
+    let time = b"time".as_slice().to_vec(rt.alloc())?;
+    let titles = Titles::OfInputs { time };
     let header = b"time,temp,power";
     read_all(
         rt.alloc(),
         header,
-        titles,
+        &titles,
         &sources,
         WIDE_LINES,
         &mut feed,
@@ -179,15 +180,15 @@ fn a_column_of_names(rt: HostRuntime) -> Result<(), Fail> {
     let mut feed = ReadingFeed::new(rt.alloc(), &[MINUTE, MINUTE])?;
     let mut events = Vec::new(rt.alloc());
     let titles = Titles::Named {
-        time: b"time",
-        name: b"station",
-        value: b"value",
+        time: b"time".as_slice().to_vec(rt.alloc())?,
+        name: b"station".as_slice().to_vec(rt.alloc())?,
+        value: b"value".as_slice().to_vec(rt.alloc())?,
     };
     let header = b"time,station,sensor,value";
     read_all(
         rt.alloc(),
         header,
-        titles,
+        &titles,
         &sources,
         TALL_LINES,
         &mut feed,

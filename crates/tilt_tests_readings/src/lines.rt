@@ -15,14 +15,6 @@ const CLOCK: Clock = Clock {
     closed: Closed::Left,
 };
 
-const WIDE: Titles<'static> = Titles::OfInputs { time: b"time" };
-
-const TALL: Titles<'static> = Titles::Named {
-    time: b"time",
-    name: b"sensor",
-    value: b"value",
-};
-
 // A line of `readings.csv`, its tick, and the values of both columns.
 const WIDE_LINES: &[(&[u8], i64, Option<i64>, Option<i64>)] = &[
     (b"2026-03-01T06:00:00Z,20.5,3", 21601, Some(2050), Some(3)),
@@ -100,6 +92,21 @@ const BAD_LINES: &[(&[u8], LineFault)] = &[
     ),
 ];
 
+// A column for each input.
+fn wide(alloc: Global) -> Result<Titles, Fail> {
+    let time = b"time".as_slice().to_vec(alloc)?;
+    Ok(Titles::OfInputs { time })
+}
+
+// A column of names.
+fn tall(alloc: Global) -> Result<Titles, Fail> {
+    Ok(Titles::Named {
+        time: b"time".as_slice().to_vec(alloc)?,
+        name: b"sensor".as_slice().to_vec(alloc)?,
+        value: b"value".as_slice().to_vec(alloc)?,
+    })
+}
+
 // The inputs `temp`, times 100, and `power`.
 fn make_sources(alloc: Global) -> Result<Vec<Source>, Fail> {
     let mut sources = Vec::new(alloc);
@@ -122,7 +129,11 @@ fn a_column_of_each_input(rt: HostRuntime) -> Result<(), Fail> {
     let (sources, rules) = (make_sources(rt.alloc())?, make_rules(rt.alloc())?);
     assert!(rt; sources.len() < 100);
     let mut reader = ReadingReader::new(rt.alloc(), b',');
-    let columns = reader.read_header(b"\xEF\xBB\xBFtime, temp,power", WIDE, &sources)?;
+    let columns = reader.read_header(
+        b"\xEF\xBB\xBFtime, temp,power",
+        &wide(rt.alloc())?,
+        &sources,
+    )?;
     let mut readings = Vec::new(rt.alloc());
     for (line, tick, temp, power) in WIDE_LINES {
         let known = reader.read_line(line, &columns, &rules, &sources, &mut readings)?;
@@ -149,7 +160,7 @@ fn a_column_of_names(rt: HostRuntime) -> Result<(), Fail> {
     let (sources, rules) = (make_sources(rt.alloc())?, make_rules(rt.alloc())?);
     assert!(rt; sources.len() < 100);
     let mut reader = ReadingReader::new(rt.alloc(), b',');
-    let columns = reader.read_header(b"time,station,sensor,value", TALL, &sources)?;
+    let columns = reader.read_header(b"time,station,sensor,value", &tall(rt.alloc())?, &sources)?;
     let mut readings = Vec::new(rt.alloc());
     for (line, expected, watermark) in TALL_LINES {
         let known = reader.read_line(line, &columns, &rules, &sources, &mut readings)?;
@@ -164,7 +175,7 @@ fn bad_lines(rt: HostRuntime) -> Result<(), Fail> {
     let (sources, rules) = (make_sources(rt.alloc())?, make_rules(rt.alloc())?);
     assert!(rt; sources.len() < 100);
     let mut reader = ReadingReader::new(rt.alloc(), b',');
-    let columns = reader.read_header(b"time,station,sensor,value", TALL, &sources)?;
+    let columns = reader.read_header(b"time,station,sensor,value", &tall(rt.alloc())?, &sources)?;
     let mut readings = Vec::new(rt.alloc());
     for (line, fault) in BAD_LINES {
         let found = reader.read_line(line, &columns, &rules, &sources, &mut readings);
@@ -207,8 +218,9 @@ fn bad_headers(rt: HostRuntime) -> Result<(), Fail> {
     let sources = make_sources(rt.alloc())?;
     assert!(rt; sources.len() < 100);
     let mut reader = ReadingReader::new(rt.alloc(), b',');
+    let titles = wide(rt.alloc())?;
     for (line, fault) in BAD_HEADERS {
-        match reader.read_header(line, WIDE, &sources) {
+        match reader.read_header(line, &titles, &sources) {
             Ok(_) => return Err("a bad header was taken".into()),
             Err(found) => assert_eq!(rt; found, ReadHeaderFault::BadHeader(*fault)),
         }

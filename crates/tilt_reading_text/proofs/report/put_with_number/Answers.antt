@@ -1,0 +1,8 @@
+use Rattle.std.proofs.Common.{◌++◌}
+use Rattle.std.specs.Fmt.{decimal}
+use Rattle.tilt_outside.proofs.Puts.{puts-short}
+use Rattle.tilt_reading_text.proofs.report.put_with_number.Goals as goal
+
+pub returns-in_err-put : goal.returns-in_err-put
+returns-in_err-put g c =
+    puts-short _ _ _ _ g.met.E.Sink.takes_fewer _ _ c.args.before.now (decimal c.args.number ++ c.args.after.now) _ c.from_residual.result c.from_residual.ensures.0 c.in_err-put.ensures

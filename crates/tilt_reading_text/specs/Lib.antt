@@ -1,0 +1,5 @@
+pub mod Kept
+pub mod Machine
+pub mod Report
+pub mod Said
+pub mod Taken
