@@ -207,3 +207,42 @@ fn reports(rt: HostRuntime) -> Result<(), Fail> {
     }
     Ok(())
 }
+
+// The events of all lines and of the end, if another text goes on after so many lines from what the first one keeps. Two lines are bad.
+fn events_in_two(alloc: Global, count: usize) -> Result<Vec<Event>, Fail> {
+    let (front, rest) = LINES.split_at(count.min(LINES.len()));
+    let mut events = Vec::new(alloc);
+    let mut bad = Vec::new(alloc);
+    let mut first = make_text(alloc, HOLD)?;
+    take_all(&mut first, front, &mut events, &mut bad)?;
+    let mut second = resumed(alloc, &first)?;
+    take_all(&mut second, rest, &mut events, &mut bad)?;
+    second.finish(&mut events)?;
+    if bad.len() != 2 {
+        return Err("two bad lines were expected".into());
+    }
+    Ok(events)
+}
+
+// A text that goes on from what another one keeps, with the columns of the header and the values that hold.
+fn resumed(alloc: Global, first: &ReadingText) -> Result<ReadingText, Fail> {
+    let kept = &first.kept(alloc)?;
+    let form = make_form(alloc)?;
+    if kept.readings.inputs.len() != 2 || form.sources.len() > 100 {
+        return Err("two inputs were expected".into());
+    }
+    Ok(ReadingText::resume(alloc, form, &[HOLD, HOLD], kept)?)
+}
+
+#[test]
+fn a_text_goes_on_from_what_was_kept(rt: HostRuntime) -> Result<(), Fail> {
+    for count in 0..LINES.len() + 1 {
+        let events = events_in_two(rt.alloc(), count)?;
+        assert_eq!(rt;
+            events.as_slice(),
+            expected().as_slice(),
+            "after {count} lines"
+        );
+    }
+    Ok(())
+}
