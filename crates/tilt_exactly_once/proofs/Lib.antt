@@ -3,6 +3,7 @@ mod Fed
 mod Moments
 mod Opening
 mod Passed
+mod Recently
 mod Running
 mod Serving
 mod Steps

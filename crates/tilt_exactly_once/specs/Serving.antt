@@ -1,6 +1,7 @@
 -- What serving a feed into a folder leaves of it.
 use Rattle.std.specs.Prelude.{◌≡◌, ℕ, true, List, ◌++◌, length, Result, Ok, Err, OnOk, IfErr}
 use Rattle.tilt_exactly_once.specs.Committed.{Holds, HoldsFront}
+use Rattle.tilt_exactly_once.specs.Recent.{HoldsBut}
 use Rattle.tilt_exactly_once.specs.declared.halt.Halt.{Halt}
 use Rattle.tilt_exactly_once.specs.declared.halt.Halt.TheVariants as halt
 use Rattle.tilt_exactly_once.specs.declared.keeper.Progress.{Progress}
@@ -24,12 +25,14 @@ module _ {F M Of : Type 0} (seen : F → Kept) (may_leave : F → Kept → Type 
   module _ (commits : Of → List ℕ → Commit → Type 0) (stops fits : Of → List ℕ → Type 0) (moment : F → ℕ) (left_since : F → ℕ → Kept → Type 0)
       (port_tells : Type 0) (first : F) (start : List ℕ) (old : Transcript) where
     -- bytes of the feed were read and taken, nothing was written to the port, and each crash since the first moment leaves the commit of a front of them
-    pub record GoesOn (folder : F) (machine : M) (written : ℕ) (new : Transcript) : Type 0 where
+    pub record GoesOn (folder : F) (machine : M) (written lines : ℕ) (new : Transcript) : Type 0 where
       pub read : List ℕ
       pub from_port : port_tells → new.read ≡ old.read ++ read
       pub unwritten : port_tells → new.written ≡ old.written
       pub underway : IsUnderway folder machine written (start ++ read)
       pub held : HoldsFront (commits of) start read (seen folder)
+      -- in those that aren't committed at most so many lines end
+      pub recent : HoldsBut (commits of) (start ++ read) lines (seen folder)
       pub leaves : LeavesOnly moment left_since first folder (HoldsFront (commits of) start read)
 
     -- the feed was served, to its end or until something halted it
@@ -49,7 +52,7 @@ module _ {F M Of : Type 0} (seen : F → Kept) (may_leave : F → Kept → Type 
       pub long : IfErr result (λ why. why ≡ halt.TooLong → fits of (start ++ read) → ⊥)
 
     -- one step more
-    abbrev pub HasStepped : F → M → ℕ → Transcript → Result Progress Halt → Type 0
-    HasStepped folder machine written new (Ok More) = GoesOn folder machine written new
-    HasStepped folder machine written new (Ok Ended) = HasServed folder new (Ok tt)
-    HasStepped folder machine written new (Err why) = HasServed folder new (Err why)
+    abbrev pub HasStepped : F → M → ℕ → ℕ → Transcript → Result Progress Halt → Type 0
+    HasStepped folder machine written lines new (Ok More) = GoesOn folder machine written lines new
+    HasStepped folder machine written lines new (Ok Ended) = HasServed folder new (Ok tt)
+    HasStepped folder machine written lines new (Err why) = HasServed folder new (Err why)

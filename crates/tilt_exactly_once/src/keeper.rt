@@ -3,7 +3,9 @@ ghost use Rattle.std.specs.Prelude.{◌≡◌, ◌<◌, ◌≤◌, ◌⊎◌, �
 ghost use Rattle.tilt_exactly_once.specs.Committed.{Holds};
 ghost use Rattle.tilt_exactly_once.specs.Feeding.{HasServedFrom};
 ghost use Rattle.tilt_exactly_once.specs.Passing.{HasPassed, IsReached, IsUnpassed, count_passed};
+ghost use Rattle.tilt_exactly_once.specs.Recent.{HoldsBut, lines_in};
 ghost use Rattle.tilt_exactly_once.specs.Serving.{GoesOn, HasServed, HasStepped, IsUnderway};
+ghost use Rattle.tilt_outside.specs.Counts.{added_count};
 ghost use Rattle.tilt_outside.specs.Faults.{Rose};
 ghost use Rattle.tilt_port.specs.Transcript.{Transcript};
 ghost use Rattle.tilt_store.specs.Crash.{LeavesOnly};
@@ -21,9 +23,9 @@ use tilt_store::{Folder, Ledger};
 // How many bytes one read asks for at most.
 const PIECE: usize = 65536;
 
-// Whether there may be more of the feed.
+/// Whether there may be more of the feed.
 #[derive(Clone, Copy, Debug, PartialEq, Eq)]
-enum Progress {
+pub enum Progress {
     More,
     Ended,
 }
@@ -35,8 +37,8 @@ pub struct Keeper<F: Folder, M: Machine> {
     pub machine: M,
     // How many bytes of output the folder has, as far as the count goes.
     pub written: u64,
-    // How many lines were taken since the last commit.
-    lines: u64,
+    // How many lines were taken since the last commit, as far as the count goes.
+    pub lines: u64,
 }
 
 impl<F: Folder, M: Machine> Keeper<F, M> {
@@ -45,6 +47,7 @@ impl<F: Folder, M: Machine> Keeper<F, M> {
         ensures ledger { result.ledger ≡ ledger }
         ensures machine { result.machine ≡ machine }
         ensures written { result.written ≡ written }
+        ensures lines { result.lines ≡ 0 }
     {
         Keeper {
             ledger,
@@ -138,7 +141,7 @@ impl<F: Folder, M: Machine> Keeper<F, M> {
         requires lines { (n : ℕ) → E.takes err.old n }
         ensures served { F.tells → (of : M.Of) (first : F) (bytes : List ℕ) (old : Transcript)
             → GoesOn F.seen F.may_leave M.is M.output of M.commits M.stops M.fits F.moment F.left_since P.tells
-            first bytes old self.old.ledger.folder self.old.machine self.old.written (P.transcript port.old)
+            first bytes old self.old.ledger.folder self.old.machine self.old.written self.old.lines (P.transcript port.old)
             → HasServed F.seen F.may_leave M.is M.output of M.commits M.stops M.fits F.moment F.left_since P.tells
             first bytes old self.new.ledger.folder (P.transcript port.new) result }
         ensures read_fault { IsErrOf result Halt.ReadFault → Rose (P.transcript port.old).read_faults (P.transcript port.new).read_faults }
@@ -156,8 +159,9 @@ impl<F: Folder, M: Machine> Keeper<F, M> {
         Err(Halt::OutOfMemory)
     }
 
-    // Reads more of the feed and takes it, or commits all of it at its end.
-    fn serve_more<P: Port, E: Sink>(
+    /// Reads more of the feed and takes it, or commits all of it at its end. After `More`, each crash leaves the commit of all bytes that
+    /// were taken but the last ones, in which fewer than `every` lines end (`recent` of `GoesOn`, `due`).
+    pub fn serve_more<P: Port, E: Sink>(
         &mut self,
         alloc: Global,
         every: u64,
@@ -171,9 +175,10 @@ impl<F: Folder, M: Machine> Keeper<F, M> {
         requires lines { (n : ℕ) → E.takes err.old n }
         ensures stepped { F.tells → (of : M.Of) (first : F) (bytes : List ℕ) (old : Transcript)
             → GoesOn F.seen F.may_leave M.is M.output of M.commits M.stops M.fits F.moment F.left_since P.tells
-            first bytes old self.old.ledger.folder self.old.machine self.old.written (P.transcript port.old)
+            first bytes old self.old.ledger.folder self.old.machine self.old.written self.old.lines (P.transcript port.old)
             → HasStepped F.seen F.may_leave M.is M.output of M.commits M.stops M.fits F.moment F.left_since P.tells
-            first bytes old self.new.ledger.folder self.new.machine self.new.written (P.transcript port.new) result }
+            first bytes old self.new.ledger.folder self.new.machine self.new.written self.new.lines (P.transcript port.new) result }
+        ensures due { IfOk result (λ progress. progress ≡ Progress.More → (self.new.lines < every) ⊎ (self.new.lines ≡ 0)) }
         ensures length { length room.new ≡ length room.old }
         ensures sound { M.sound self.new.machine }
         ensures is_open { F.tells → OnOk result (IsOpen (F.seen self.new.ledger.folder) (F.may_leave self.new.ledger.folder)) }
@@ -206,6 +211,9 @@ impl<F: Folder, M: Machine> Keeper<F, M> {
             → OnOk result (IsUnderway F.seen F.may_leave M.is M.output of
             self.new.ledger.folder self.new.machine self.new.written (bytes ++ piece.now)) }
         ensures same { F.tells → OnOk result (SameCommit (F.seen self.old.ledger.folder) (F.seen self.new.ledger.folder)) }
+        ensures recent { F.tells → (of : M.Of) (bytes : List ℕ)
+            → HoldsBut (M.commits of) bytes self.old.lines (F.seen self.old.ledger.folder)
+            → OnOk result (HoldsBut (M.commits of) (bytes ++ piece.now) self.new.lines (F.seen self.new.ledger.folder)) }
         ensures any_moment { F.tells → LeavesOnly F.moment F.left_since self.old.ledger.folder self.new.ledger.folder
             (SameCommit (F.seen self.old.ledger.folder)) }
         ensures badly { (of : M.Of) (bytes : List ℕ) → M.is self.old.machine of bytes
@@ -237,6 +245,11 @@ impl<F: Folder, M: Machine> Keeper<F, M> {
             → IsUnderway F.seen F.may_leave M.is M.output of self.old.ledger.folder self.old.machine self.old.written bytes
             → OnOk result (SameCommit (F.seen self.old.ledger.folder) (F.seen self.new.ledger.folder)
             ⊎ Holds (M.commits of) bytes (F.seen self.new.ledger.folder)) }
+        ensures recent { F.tells → (of : M.Of) (bytes : List ℕ)
+            → IsUnderway F.seen F.may_leave M.is M.output of self.old.ledger.folder self.old.machine self.old.written bytes
+            → HoldsBut (M.commits of) bytes self.old.lines (F.seen self.old.ledger.folder)
+            → OnOk result (HoldsBut (M.commits of) bytes self.new.lines (F.seen self.new.ledger.folder)) }
+        ensures due { OnOk result ((self.new.lines < every) ⊎ (self.new.lines ≡ 0)) }
         ensures any_moment { F.tells → (of : M.Of) (bytes : List ℕ)
             → IsUnderway F.seen F.may_leave M.is M.output of self.old.ledger.folder self.old.machine self.old.written bytes
             → LeavesOnly F.moment F.left_since self.old.ledger.folder self.new.ledger.folder
@@ -268,6 +281,7 @@ impl<F: Folder, M: Machine> Keeper<F, M> {
         ensures committed { F.tells → (of : M.Of) (bytes : List ℕ)
             → IsUnderway F.seen F.may_leave M.is M.output of self.old.ledger.folder self.old.machine self.old.written bytes
             → OnOk result (Holds (M.commits of) bytes (F.seen self.new.ledger.folder)) }
+        ensures lines { OnOk result (self.new.lines ≡ 0) }
         ensures settled { F.tells → OnOk result (IsSettled (F.seen self.new.ledger.folder) (F.may_leave self.new.ledger.folder)) }
         ensures any_moment { F.tells → (of : M.Of) (bytes : List ℕ)
             → IsUnderway F.seen F.may_leave M.is M.output of self.old.ledger.folder self.old.machine self.old.written bytes
@@ -297,7 +311,9 @@ fn make_room(alloc: Global, size: usize) -> Result<Vec<u8>, OutOfMemory>
 }
 
 // How many lines end in a piece.
-fn count_lines(piece: &[u8]) -> u64 {
+fn count_lines(piece: &[u8]) -> u64
+    ensures { result ≡ added_count 0 (lines_in piece.now) }
+{
     let mut count: u64 = 0;
     for byte in piece {
         if *byte == b'\n' {

@@ -20,7 +20,7 @@ mod start;
 pub use failure::Failure;
 pub use feed::{Served, count_committed, serve_feed};
 pub use halt::{Halt, Stop};
-pub use keeper::Keeper;
+pub use keeper::{Keeper, Progress};
 pub use law::{passing_leaves_the_rest, programs_are_runs, runs_hold_a_front};
 pub use machine::{Machine, Resumed, Started};
 pub use plan::Plan;

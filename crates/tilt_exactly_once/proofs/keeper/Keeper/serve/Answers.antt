@@ -1,4 +1,4 @@
-use Rattle.std.proofs.Common.{◌∙◌, List, ℕ, [], refl, sym, subst, ap, append-nil, Err}
+use Rattle.std.proofs.Common.{◌∙◌, List, ℕ, [], refl, sym, subst, ap, append-nil, arith, Err}
 use Rattle.std.proofs.lemmas.Result.{err_from_is_err_and}
 use Rattle.tilt_exactly_once.proofs.Serving.{leaves-first}
 use Rattle.tilt_exactly_once.proofs.Steps.{front-none}
@@ -32,6 +32,7 @@ returns-clause-served g c told of bytes underway holds =
       underway = subst (λ (l : List ℕ). IsUnderway g.F.Folder.seen g.F.Folder.may_leave g.M.Machine.is g.M.Machine.output of folder c.args.self.now.machine
           c.args.self.now.written l) (sym (append-nil bytes)) underway;
       held = front-none (g.M.Machine.commits of) bytes (g.F.Folder.seen folder) holds;
+      recent = record { front = bytes; rest = []; parts = refl; few = omega arith; holds = holds };
       leaves = leaves-first g.F.Folder.seen g.F.Folder.may_leave g.F.Folder.moment g.F.Folder.left_since (g.M.Machine.commits of) folder bytes underway.is_open
           (g.met.F.Folder.only_now folder) holds;
     })

@@ -14,7 +14,7 @@ invariant-loop g l = record {
   faults : g.F.Folder.faults l.fn.self.ledger.folder ≤ g.F.Folder.faults l.self.ledger.folder;
   of : g.F.Folder.tells → (of : g.M.Machine.Of) (first : g.row.F.Denot) (bytes : List ℕ) (old : Transcript)
       → GoesOn g.F.Folder.seen g.F.Folder.may_leave g.M.Machine.is g.M.Machine.output of g.M.Machine.commits g.M.Machine.stops g.M.Machine.fits g.F.Folder.moment
-      g.F.Folder.left_since g.P.Port.tells first bytes old l.fn.self.ledger.folder l.fn.self.machine l.fn.self.written (g.P.Port.transcript l.fn.port)
+      g.F.Folder.left_since g.P.Port.tells first bytes old l.fn.self.ledger.folder l.fn.self.machine l.fn.self.written l.fn.self.lines (g.P.Port.transcript l.fn.port)
       → GoesOn g.F.Folder.seen g.F.Folder.may_leave g.M.Machine.is g.M.Machine.output of g.M.Machine.commits g.M.Machine.stops g.M.Machine.fits g.F.Folder.moment
-      g.F.Folder.left_since g.P.Port.tells first bytes old l.self.ledger.folder l.self.machine l.self.written (g.P.Port.transcript l.port);
+      g.F.Folder.left_since g.P.Port.tells first bytes old l.self.ledger.folder l.self.machine l.self.written l.self.lines (g.P.Port.transcript l.port);
 }

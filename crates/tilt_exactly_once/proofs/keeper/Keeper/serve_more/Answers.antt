@@ -1,6 +1,7 @@
 use Rattle.std.proofs.Common.{◌∙◌, ◌++◌, take, ap, append_assoc, subst, Err}
 use Rattle.std.proofs.lemmas.Result.{err_from_is_err_and}
 use Rattle.tilt_exactly_once.proofs.Serving.{leaves-on, leaves-taken, read-end, read-more, stop-bad, stop-long, underway-same}
+use Rattle.tilt_exactly_once.proofs.Recently.{recent-joined}
 use Rattle.tilt_exactly_once.proofs.Steps.{front-either, front-more, front-same}
 use Rattle.tilt_exactly_once.proofs.keeper.Keeper.serve_more.Goals as goal
 
@@ -123,6 +124,8 @@ returns-clause-stepped g c told of first start old going =
       unwritten = λ t. (c.in-Ok.ensures.read t).written ∙ going.unwritten t;
       underway = c.in_ok-commit_if_due.ensures.underway told of (start ++ (going.read ++ piece)) taken;
       held = front-either Is start (going.read ++ piece) _ _ held (c.in_ok-commit_if_due.ensures.same told of (start ++ (going.read ++ piece)) taken);
+      recent = c.in_ok-commit_if_due.ensures.recent told of (start ++ (going.read ++ piece)) taken
+          (recent-joined Is start going.read piece _ _ (c.in_ok-take.ensures.recent told of (start ++ going.read) going.recent));
       leaves = leaves-on g.F.Folder.seen g.F.Folder.moment g.F.Folder.left_since Is first mid c.commit_if_due.new.self.ledger.folder start (going.read ++ piece)
           held so_far (c.in_ok-commit_if_due.ensures.any_moment told of (start ++ (going.read ++ piece)) taken);
     }
