@@ -23,12 +23,12 @@ which the first such file exists. The other inputs are the same for all keys. Th
 key,start,end,value."""
 
 
-# What stands for the key in a word; all other signs are those of the file.
+# Where the key is in an argument; all other signs are those of the file.
 KEY = re.compile(r"\{key\}")
 
 
 class Done(NamedTuple):
-    """A key, the file of its output, its status, what was told, and the arguments of the program."""
+    """A key, the file of its output, its status, what was reported, and the arguments of the program."""
 
     key: str
     file: str
@@ -48,7 +48,7 @@ def add(commands: Any) -> None:
 
 
 def keys_of(pattern: str) -> list[str]:
-    """The keys for which the file is there, as they stand in its name, in order."""
+    """The keys for which the file is there, as they are in its name, in order."""
     return sorted(key for key in keys_and_files(pattern, KEY) if key is not None)
 
 

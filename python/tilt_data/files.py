@@ -45,7 +45,7 @@ ENDING = (signal.SIGINT, signal.SIGTERM, signal.SIGHUP)
 DEFAULTS = {"kind": "hold", "name": "", "key": None, "zone": None, "sha256": None}
 # The conventions of a series.
 KINDS = ("hold", "event", "helper")
-# What stands for a key, or for other signs, in a word that names files.
+# Where a key, or other signs, are in an argument that names files.
 WILD = re.compile(r"\{key\}|\*|\?")
 # The folders of the files that a process was handed open.
 HANDED = re.compile(r"/proc/[0-9]+(/task/[0-9]+)?/fd", re.ASCII)
@@ -181,7 +181,7 @@ def unsafe(name: str) -> str:
 
 
 def keys_and_files(pattern: str, wild: re.Pattern[str] = WILD) -> dict[str | None, list[str]]:
-    """The files of a word by their keys, as these stand in the names; the key is None where the word has none."""
+    """The files of an argument by their keys, as these are in the names; the key is None if the argument has none."""
     if os.path.exists(pattern):
         return {None: [os.path.abspath(pattern)]}
     pieces, signs = wild.split(pattern), wild.findall(pattern)
