@@ -4,10 +4,10 @@ use Rattle.std.specs.Prelude.{◌⊎◌, codes, is_some}
 use Rattle.std.proofs.Common.{inl, inr}
 use Rattle.std.specs.List.{AllByRecursion}
 use Rattle.std.proofs.lemmas.Option.{none-some}
-use Rattle.tilt_app.specs.Continued.{IsContinued, IsLeft}
-use Rattle.tilt_app.specs.Outcome.{IsOutcome, does}
+use Rattle.tilt_app.specs.Continued.{IsLeft}
+use Rattle.tilt_app.specs.Outcome.{does}
 use Rattle.tilt_app.specs.Saving.{IsSaved}
-use Rattle.tilt_app.specs.SessionCalls.{AreHandedOn, AreRead, AreSessions, DidContinue, HandsTo, IsOneRun, IsReadBy, SessionCall}
+use Rattle.tilt_app.specs.SessionCalls.{AreHandedOn, AreRead, AreSessions, DidContinue, IsOneRun, IsReadBy, SessionCall}
 use Rattle.tilt_app.specs.SessionCalls.{binds_of, checkpoint_name, out_of, query_name, saved_name, shelf_of, texts_of}
 use Rattle.tilt_checkpoint.specs.Cuts.{CutsParts}
 use Rattle.tilt_checkpoint.specs.Spelling.{spelling}
@@ -19,7 +19,7 @@ use Rattle.tilt_load.proofs.OneQuery.{query_core}
 use Rattle.tilt_load.specs.FileCommand.{done}
 use Rattle.tilt_load.specs.QueryFile.{TakesQuery}
 use Rattle.tilt_printed.specs.Saving.{SaveValue, outcome_of}
-use Rattle.tilt_report.specs.Report.{Outcome, printed, printed_and_saved}
+use Rattle.tilt_report.specs.Report.{printed, printed_and_saved}
 use Rattle.tilt_session.proofs.Whole.{output-given}
 use Rattle.tilt_session.specs.Emitted.{emitted}
 use Rattle.tilt_session.specs.Kept.{checkpoint_at}
@@ -31,7 +31,7 @@ use Rattle.tilt_stream.specs.Text.{lines_of, row_text, text_of}
 use Rattle.tilt_syntax.specs.Tree.{StatementTree}
 use Rattle.tilt_types.specs.Checked.{core_of}
 use Rattle.tilt_cli.specs.Binding.{Binding}
-use Rattle.tilt_cli.specs.Command.{CommandValue, IsCommand, run, compile, exec, explain, start, resume_upto, resume_end, pipe, watch, parts, flow, fix, try}
+use Rattle.tilt_cli.specs.Command.{CommandValue, run, compile, exec, explain, start, resume_upto, resume_end, pipe, watch, parts, flow, fix, try}
 
 -- a call
 abbrev called : CommandValue → (held holds : List ℕ → List ℕ) → List ℕ → SessionCall

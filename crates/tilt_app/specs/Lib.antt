@@ -4,6 +4,7 @@ pub mod Change
 pub mod Continued
 pub mod Done
 pub mod Outcome
+pub mod Promise
 pub mod Saving
 pub mod SessionCalls
 pub mod Show

@@ -35,12 +35,27 @@ shelf_of call = record {
   reads_after = 0;
   saves_before = 0;
   saves_after = 0;
+  given_before = 0;
+  given_after = 0;
+  took = λ name n. ⊤;
+  takes = λ name n. ⊤;
+  only_read = ⊤;
 }
 
 abbrev pub out_of : SessionCall → SinkChange
-out_of call = record { tells = ⊤; old = []; new = call.text; before = 0; after = 0; took = λ n. ⊤; takes = λ n. ⊤ }
+out_of call = record {
+  tells = ⊤;
+  old = [];
+  new = call.text;
+  before = 0;
+  after = 0;
+  took = λ n. ⊤;
+  takes = λ n. ⊤;
+  held_back = 0;
+  kept = ⊤;
+}
 
--- the clause `continued` of `tilt` for it
+-- what the promise's `continued` says of it
 abbrev pub DidContinue : SessionCall → Type 0
 DidContinue call = IsContinued (shelf_of call) (out_of call) call.command
 

@@ -4,23 +4,20 @@ ghost use Rattle.tilt_app.specs.Cause.{IsCause, IsLineWritten, IsSaveFault};
 ghost use Rattle.tilt_app.specs.Change.{shelf_change, sink_change};
 ghost use Rattle.tilt_app.specs.Continued.{IsContinued};
 ghost use Rattle.tilt_app.specs.Done.{IsDone};
-ghost use Rattle.tilt_app.specs.Outcome.{HasRowTurn, HasTurn, HaveRead, IsOutcome, IsRowOutcome, IsRowRead};
-ghost use Rattle.tilt_app.specs.Outcome.{IsRunnable, IsSaving, IsStreaming, Saves, Streams};
+ghost use Rattle.tilt_app.specs.Outcome.{HasRowTurn, HasTurn, IsOutcome, IsRowOutcome, IsRowRead, Saves, Streams};
+ghost use Rattle.tilt_app.specs.Promise.{KeepsPromise};
 ghost use Rattle.tilt_app.specs.Saving.{IsSaved, IsUnsaved};
-ghost use Rattle.tilt_app.specs.Show.{IsShow, IsUntouched, IsWatch, IsWatchOf, SeeOfFault, WatchesRun};
+ghost use Rattle.tilt_app.specs.Show.{IsShow, SeeOfFault};
 ghost use Rattle.tilt_commands.specs.Table.{row_of};
 ghost use Rattle.tilt_outside.specs.Faults.{Rose};
 ghost use Rattle.tilt_outside.specs.Reads.{OnlyReads};
 ghost use Rattle.tilt_printed.specs.Saving.{SaveValue, outcome_of};
 ghost use Rattle.tilt_printed.specs.Left.{left_of};
-ghost use Rattle.tilt_printed.specs.Show.{HaveSeen, HaveSeenInPart, SeeAll};
-ghost use Rattle.tilt_printed.specs.declared.unput.Unput.TheVariants.{Failed, OutOfMemory};
-ghost use Rattle.tilt_report.specs.Report.{Report, refused, report_of, status_of, line_of};
-ghost use Rattle.tilt_report.specs.Report.{write_fault, save_fault, out_of_memory};
+ghost use Rattle.tilt_printed.specs.Show.{SeeAll};
+ghost use Rattle.tilt_report.specs.Report.{report_of, status_of, line_of, write_fault, save_fault, out_of_memory};
 ghost use Rattle.tilt_stream.specs.Snap.{Snapshot};
 ghost use Rattle.tilt_watch.specs.Watch.{Watch, watches};
-ghost use Rattle.tilt_cli.specs.Binding.{Binding};
-ghost use Rattle.tilt_cli.specs.Command.{CommandValue, IsCommand, IsWithin, command_of, texts};
+ghost use Rattle.tilt_cli.specs.Command.{IsWithin, command_of, texts};
 
 use crate::answer::answer;
 use std::alloc::Global;
@@ -51,16 +48,16 @@ fn done<'a, S: Shelf, O: Sink>(
         → S.takes shelf.old save.name (length save.bytes) }
     ensures done { OnOk result (IsDone
         (IsRowOutcome (S.files shelf.old) (watches pair step ends watchers.old.items) (row_of (command_of command.now)))
-        (shelf_change S.tells S.files S.read_faults S.save_faults shelf.old shelf.new)
-        (sink_change O.tells O.written O.faults O.takes out.old out.new)) }
+        (shelf_change S.Shelf shelf.old shelf.new)
+        (sink_change O.Sink out.old out.new)) }
     ensures cause { IfErr result (λ fault. IsCause
         (IsRowOutcome (S.files shelf.old) (watches pair step ends watchers.old.items) (row_of (command_of command.now)))
         (λ name. (any : List Watch) × HasRowTurn S.tells (S.files shelf.old) any (row_of (command_of command.now)) name)
-        (shelf_change S.tells S.files S.read_faults S.save_faults shelf.old shelf.new)
-        (sink_change O.tells O.written O.faults O.takes out.old out.new) (report_of fault)) }
+        (shelf_change S.Shelf shelf.old shelf.new)
+        (sink_change O.Sink out.old out.new) (report_of fault)) }
     ensures continued { S.tells → OnOk result (IsContinued
-        (shelf_change S.tells S.files S.read_faults S.save_faults shelf.old shelf.new)
-        (sink_change O.tells O.written O.faults O.takes out.old out.new) (command_of command.now)) }
+        (shelf_change S.Shelf shelf.old shelf.new)
+        (sink_change O.Sink out.old out.new) (command_of command.now)) }
     ensures handed_on { MatchResult result (λ _. O.held_back out.new ≡ 0)
         (λ fault. IsSaveFault (report_of fault) → O.held_back out.new ≡ 0) }
     ensures seen { MatchResult result
@@ -94,11 +91,11 @@ fn done<'a, S: Shelf, O: Sink>(
 // Saves bytes under their name.
 fn save<'a, S: Shelf>(shelf: &mut S, save: &Save<'a>) -> Result<(), Fault<'a>>
     requires { S.takes shelf.old save.now.name.now (length save.now.bytes.items) }
-    ensures saved { OnOk result (IsSaved (shelf_change S.tells S.files S.read_faults S.save_faults shelf.old shelf.new)
+    ensures saved { OnOk result (IsSaved (shelf_change S.Shelf shelf.old shelf.new)
         (Some (record { name = save.now.name.now; bytes = save.now.bytes.items }))) }
     ensures fault { IfErr result (λ fault. (report_of fault ≡ save_fault save.now.name.now)
         × Rose (S.save_faults shelf.old) (S.save_faults shelf.new)
-        × IsUnsaved (shelf_change S.tells S.files S.read_faults S.save_faults shelf.old shelf.new)
+        × IsUnsaved (shelf_change S.Shelf shelf.old shelf.new)
         (record { name = save.now.name.now; bytes = save.now.bytes.items })) }
     ensures counts { (S.read_faults shelf.new ≡ S.read_faults shelf.old) × (S.save_faults shelf.old ≤ S.save_faults shelf.new)
         × (S.given shelf.new ≡ S.given shelf.old) }
@@ -114,7 +111,7 @@ fn save<'a, S: Shelf>(shelf: &mut S, save: &Save<'a>) -> Result<(), Fault<'a>>
 fn tell<E: Sink>(err: &mut E, fault: &Fault<'_>) -> u8
     requires { (n : ℕ) → E.takes err.old n }
     ensures status { result ≡ status_of (report_of fault.now) }
-    ensures line { IsLineWritten (sink_change E.tells E.written E.faults E.takes err.old err.new) (line_of (report_of fault.now)) }
+    ensures line { IsLineWritten (sink_change E.Sink err.old err.new) (line_of (report_of fault.now)) }
     ensures told { (E.held_back err.new ≡ 0) ⊎ Rose (E.faults err.old) (E.faults err.new) }
     ensures count { E.faults err.old ≤ E.faults err.new }
     ensures takes { (n : ℕ) → E.takes err.new n }
@@ -163,69 +160,10 @@ pub fn tilt<S: Shelf, O: Sink, E: Sink>(
         → S.takes shelf.old save.name (length save.bytes) }
     requires lines { (n : ℕ) → E.takes err.old n }
 
-    // Status 0: the text was written whole and handed on, and nothing else was; then the bytes were saved, if there are any.
-    ensures done { result ≡ 0 → IsDone (IsOutcome (texts words.now) (S.files shelf.old) (watches pair step ends watchers.old.items))
-        (shelf_change S.tells S.files S.read_faults S.save_faults shelf.old shelf.new)
-        (sink_change O.tells O.written O.faults O.takes out.old out.new) }
-    ensures handed_on { (result ≡ 0) ⊎ (result ≡ 6) → O.held_back out.new ≡ 0 }
-    ensures quiet { result ≡ 0 → err.new ≡ err.old }
-    ensures read_once { result ≡ 0 → S.tells
-        → HaveRead (texts words.now) (S.files shelf.old) (S.given shelf.old) (S.given shelf.new) }
-
-    // After the checkpoint of some rows, a session writes and saves what one session on all rows would beyond.
-    ensures continued { result ≡ 0 → S.tells → (command : CommandValue) → IsCommand (texts words.now) command
-        → IsContinued (shelf_change S.tells S.files S.read_faults S.save_faults shelf.old shelf.new)
-        (sink_change O.tells O.written O.faults O.takes out.old out.new) command }
-
-    // Every other status has its cause and its line.
-    ensures reported { (result ≡ 0 → ⊥) → (report : Report) × (result ≡ status_of report)
-        × IsCause (IsOutcome (texts words.now) (S.files shelf.old) (watches pair step ends watchers.old.items))
-        (HasTurn S.tells (texts words.now) (S.files shelf.old))
-        (shelf_change S.tells S.files S.read_faults S.save_faults shelf.old shelf.new)
-        (sink_change O.tells O.written O.faults O.takes out.old out.new) report
-        × IsLineWritten (sink_change E.tells E.written E.faults E.takes err.old err.new) (line_of report) }
-    ensures told { (result ≡ 0 → ⊥) → (E.held_back err.new ≡ 0) ⊎ Rose (E.faults err.old) (E.faults err.new) }
-
-    // Nothing is written except under status 0, 4 and 6, and under 5 by a command that takes memory between writes.
-    ensures unwritten { (result ≡ 0 → ⊥) → (result ≡ 4 → ⊥) → (result ≡ 6 → ⊥)
-        → ((result ≡ 5) × IsStreaming (texts words.now) → ⊥) → out.new ≡ out.old }
-    ensures usage { result ≡ 2 → ¬ (IsRunnable (texts words.now)) }
-    ensures no_command { ¬ (IsRunnable (texts words.now)) → (result ≡ 2) ⊎ (result ≡ 5) }
-
-    // If no count rose, the call gives the outcome, unless it runs out of memory.
-    ensures complete { S.tells → (text : List ℕ) (save : Option SaveValue)
-        → IsOutcome (texts words.now) (S.files shelf.old) (watches pair step ends watchers.old.items) (outcome_of text save)
-        → (Rose (S.read_faults shelf.old) (S.read_faults shelf.new) → ⊥)
-        → (Rose (S.save_faults shelf.old) (S.save_faults shelf.new) → ⊥)
-        → (Rose (O.faults out.old) (O.faults out.new) → ⊥) → (result ≡ 0) ⊎ (result ≡ 5) }
-    ensures complete_refusal { S.tells → (report : Report)
-        → IsOutcome (texts words.now) (S.files shelf.old) (watches pair step ends watchers.old.items) (refused report)
-        → (Rose (S.read_faults shelf.old) (S.read_faults shelf.new) → ⊥) → (result ≡ status_of report) ⊎ (result ≡ 5) }
-    ensures faultless { (Rose (S.read_faults shelf.old) (S.read_faults shelf.new) → ⊥)
-        → (Rose (S.save_faults shelf.old) (S.save_faults shelf.new) → ⊥)
-        → (Rose (O.faults out.old) (O.faults out.new) → ⊥) → (result ≡ 0) ⊎ ((result ≡ 1) ⊎ ((result ≡ 2) ⊎ (result ≡ 5))) }
-
-    // The watchers are as before, unless rows were printed for them to watch: then they saw those whose lines were written.
-    ensures unwatched { ¬ (IsWatch (texts words.now)) → watchers.new ≡ watchers.old }
-    ensures unseen { (result ≡ 0 → ⊥) → (result ≡ 4 → ⊥) → (result ≡ 5 → ⊥) → watchers.new ≡ watchers.old }
-    ensures seen { result ≡ 0 → (query : List ℕ) (binds : List Binding) → IsWatchOf (texts words.now) query binds
-        → (list : List Snapshot) × WatchesRun S.tells (S.files shelf.old) query binds list
-        × HaveSeen (left_of O.tells O.written out.old out.new pair step ends watchers.old watchers.new) list }
-    ensures seen_in_part { result ≡ 4 → (query : List ℕ) (binds : List Binding) → IsWatchOf (texts words.now) query binds
-        → (list : List Snapshot) × WatchesRun S.tells (S.files shelf.old) query binds list
-        × HaveSeenInPart Failed (left_of O.tells O.written out.old out.new pair step ends watchers.old watchers.new) list }
-    ensures seen_before_want { result ≡ 5 → (query : List ℕ) (binds : List Binding) → IsWatchOf (texts words.now) query binds
-        → IsUntouched (left_of O.tells O.written out.old out.new pair step ends watchers.old watchers.new)
-        ⊎ ((list : List Snapshot) × WatchesRun S.tells (S.files shelf.old) query binds list
-        × HaveSeenInPart OutOfMemory (left_of O.tells O.written out.old out.new pair step ends watchers.old watchers.new) list) }
-
-    // The files are as before, unless bytes were saved. What can be taken still can, and no count falls.
-    ensures rest { (result ≡ 0 → ⊥) → (result ≡ 6 → ⊥) → OnlyReads S.files S.read_faults S.save_faults S.takes shelf.old shelf.new }
-    ensures unsaved { ¬ (IsSaving (texts words.now)) → OnlyReads S.files S.read_faults S.save_faults S.takes shelf.old shelf.new }
-    ensures takes { (name : List ℕ) (n : ℕ) → S.takes shelf.old name n ↔ S.takes shelf.new name n }
-    ensures lines_left { (n : ℕ) → E.takes err.new n }
-    ensures counts { (S.read_faults shelf.old ≤ S.read_faults shelf.new) × (S.save_faults shelf.old ≤ S.save_faults shelf.new)
-        × (O.faults out.old ≤ O.faults out.new) × (E.faults err.old ≤ E.faults err.new) }
+    // What the program promises.
+    ensures does { KeepsPromise (texts words.now) (shelf_change S.Shelf shelf.old shelf.new) (sink_change O.Sink out.old out.new)
+        (sink_change E.Sink err.old err.new)
+        (left_of O.tells O.written out.old out.new pair step ends watchers.old watchers.new) result }
 {
     match read_words(alloc, words) {
         Ok(command) => match done(alloc, &command, shelf, out, watchers) {

@@ -21,27 +21,27 @@ use Rattle.tilt_app.proofs.command.done.Goals as goal
 pub returns-in_err-answered-clause-cause : goal.returns-in_err-answered-clause-cause
 returns-in_err-answered-clause-cause g c =
     let p = err_from_is_err_and c.from_residual.result c.from_residual.ensures.1 in
-    rw (p.1, p.2) (fault_cause g.S.Shelf.tells g.S.Shelf.files g.S.Shelf.read_faults g.S.Shelf.save_faults g.S.Shelf.takes g.S.Shelf.given c.args.shelf.now c.answer.new.shelf
+    rw (p.1, p.2) (fault_cause g.S.Shelf c.args.shelf.now c.answer.new.shelf
     (command_of c.args.command.now) c.in_err-answered.field-0.0 c.in_err-answered.ensures.does _
-    (sink_change g.O.Sink.tells g.O.Sink.written g.O.Sink.faults g.O.Sink.takes c.args.out.now c.args.out.now) refl)
+    (sink_change g.O.Sink c.args.out.now c.args.out.now) refl)
 
 pub returns-in_err-answered-clause-handed_on : goal.returns-in_err-answered-clause-handed_on
 returns-in_err-answered-clause-handed_on g c =
     let p = err_from_is_err_and c.from_residual.result c.from_residual.ensures.1 in
-    rw (p.1, p.2) (λ is. absurd (fault_of_no_save g.S.Shelf.tells g.S.Shelf.files g.S.Shelf.read_faults g.S.Shelf.save_faults g.S.Shelf.takes g.S.Shelf.given c.args.shelf.now c.answer.new.shelf
+    rw (p.1, p.2) (λ is. absurd (fault_of_no_save g.S.Shelf c.args.shelf.now c.answer.new.shelf
     (command_of c.args.command.now) c.in_err-answered.field-0.0 c.in_err-answered.ensures.does is))
 
 pub returns-in_err-answered-clause-seen : goal.returns-in_err-answered-clause-seen
 returns-in_err-answered-clause-seen g c =
     let p = err_from_is_err_and c.from_residual.result c.from_residual.ensures.1 in
-    rw (p.1, p.2) (fault_seen g.S.Shelf.tells g.S.Shelf.files g.S.Shelf.read_faults g.S.Shelf.save_faults g.S.Shelf.takes g.S.Shelf.given c.args.shelf.now c.answer.new.shelf
+    rw (p.1, p.2) (fault_seen g.S.Shelf c.args.shelf.now c.answer.new.shelf
     (command_of c.args.command.now) c.in_err-answered.field-0.0 c.in_err-answered.ensures.does _ (IsShow g.S.Shelf.tells (g.S.Shelf.files c.args.shelf.now) (command_of c.args.command.now))
     (record { kept = refl; unwritten = λ t. refl }))
 
 pub returns-in_err-answered-clause-saving : goal.returns-in_err-answered-clause-saving
 returns-in_err-answered-clause-saving g c =
     let p = err_from_is_err_and c.from_residual.result c.from_residual.ensures.1 in
-    rw (p.1, p.2) (λ is. absurd (fault_of_no_save g.S.Shelf.tells g.S.Shelf.files g.S.Shelf.read_faults g.S.Shelf.save_faults g.S.Shelf.takes g.S.Shelf.given c.args.shelf.now c.answer.new.shelf
+    rw (p.1, p.2) (λ is. absurd (fault_of_no_save g.S.Shelf c.args.shelf.now c.answer.new.shelf
     (command_of c.args.command.now) c.in_err-answered.field-0.0 c.in_err-answered.ensures.does is))
 
 pub put-requires-clause-room : goal.put-requires-clause-room
@@ -63,8 +63,8 @@ returns-in-Err-clause-cause g c =
     let tells = g.S.Shelf.tells in
     let files = g.S.Shelf.files c.args.shelf.now in
     let command = command_of c.args.command.now in
-    let shelf = shelf_change g.S.Shelf.tells g.S.Shelf.files g.S.Shelf.read_faults g.S.Shelf.save_faults c.args.shelf.now c.answer.new.shelf in
-    let out = sink_change g.O.Sink.tells g.O.Sink.written g.O.Sink.faults g.O.Sink.takes c.args.out.now c.put.new.out in
+    let shelf = shelf_change g.S.Shelf c.args.shelf.now c.answer.new.shelf in
+    let out = sink_change g.O.Sink c.args.out.now c.put.new.out in
     let read = reading g.S.Shelf.tells g.S.Shelf.files g.S.Shelf.read_faults g.S.Shelf.save_faults g.S.Shelf.takes g.S.Shelf.given c.args.shelf.now c.answer.new.shelf in
     let answered = c.in_ok-answered.answered in
     let does = c.in_ok-answered.ensures.does in
@@ -118,8 +118,8 @@ pub returns-in-None-clause-continued : goal.returns-in-None-clause-continued
 returns-in-None-clause-continued g c =
     let files = g.S.Shelf.files c.args.shelf.now in
     let command = command_of c.args.command.now in
-    let shelf = shelf_change g.S.Shelf.tells g.S.Shelf.files g.S.Shelf.read_faults g.S.Shelf.save_faults c.args.shelf.now c.answer.new.shelf in
-    let out = sink_change g.O.Sink.tells g.O.Sink.written g.O.Sink.faults g.O.Sink.takes c.args.out.now c.put.new.out in
+    let shelf = shelf_change g.S.Shelf c.args.shelf.now c.answer.new.shelf in
+    let out = sink_change g.O.Sink c.args.out.now c.put.new.out in
     let read = reading g.S.Shelf.tells g.S.Shelf.files g.S.Shelf.read_faults g.S.Shelf.save_faults g.S.Shelf.takes g.S.Shelf.given c.args.shelf.now c.answer.new.shelf in
     let answered = c.in_ok-answered.answered in
     let does = c.in_ok-answered.ensures.does in
@@ -176,8 +176,8 @@ returns-in-Some-clause-cause g c =
     let tells = g.S.Shelf.tells in
     let files = g.S.Shelf.files c.args.shelf.now in
     let command = command_of c.args.command.now in
-    let shelf = shelf_change g.S.Shelf.tells g.S.Shelf.files g.S.Shelf.read_faults g.S.Shelf.save_faults c.args.shelf.now c.save.new.shelf in
-    let out = sink_change g.O.Sink.tells g.O.Sink.written g.O.Sink.faults g.O.Sink.takes c.args.out.now c.put.new.out in
+    let shelf = shelf_change g.S.Shelf c.args.shelf.now c.save.new.shelf in
+    let out = sink_change g.O.Sink c.args.out.now c.put.new.out in
     let read = reading g.S.Shelf.tells g.S.Shelf.files g.S.Shelf.read_faults g.S.Shelf.save_faults g.S.Shelf.takes g.S.Shelf.given c.args.shelf.now c.answer.new.shelf in
     let answered = c.in_ok-answered.answered in
     let does = c.in_ok-answered.ensures.does in
@@ -195,8 +195,8 @@ pub returns-in-Some-clause-continued : goal.returns-in-Some-clause-continued
 returns-in-Some-clause-continued g c =
     let files = g.S.Shelf.files c.args.shelf.now in
     let command = command_of c.args.command.now in
-    let shelf = shelf_change g.S.Shelf.tells g.S.Shelf.files g.S.Shelf.read_faults g.S.Shelf.save_faults c.args.shelf.now c.save.new.shelf in
-    let out = sink_change g.O.Sink.tells g.O.Sink.written g.O.Sink.faults g.O.Sink.takes c.args.out.now c.put.new.out in
+    let shelf = shelf_change g.S.Shelf c.args.shelf.now c.save.new.shelf in
+    let out = sink_change g.O.Sink c.args.out.now c.put.new.out in
     let read = reading g.S.Shelf.tells g.S.Shelf.files g.S.Shelf.read_faults g.S.Shelf.save_faults g.S.Shelf.takes g.S.Shelf.given c.args.shelf.now c.answer.new.shelf in
     let answered = c.in_ok-answered.answered in
     let does = c.in_ok-answered.ensures.does in

@@ -10,7 +10,7 @@ use Rattle.tilt_tests_app.proofs.sure.run_again.Goals as goal
 pub sure-requires-clause-room : goal.sure-requires-clause-room
 sure-requires-clause-room c =
     let zero : c.tilt.result ≡ 0 = search rules in
-    let done = c.tilt.ensures.done zero in
+    let done = c.tilt.ensures.does.done zero in
     let same =
     same_files _ _ _ _ _ _ _ _ _ _ _ _ (rw c.new-shelf.ensures at c.in_ok-hold.ensures.held) c.in_ok-hold-2.ensures.held (rw c.new-files.ensures at c.in_ok-hold-3.ensures.held)
     c.in_ok-hold-4.ensures.held in
