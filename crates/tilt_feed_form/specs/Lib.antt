@@ -1,0 +1,4 @@
+pub mod Machine
+pub mod Report
+pub mod Said
+pub mod Setup
