@@ -1,7 +1,7 @@
 -- What lines say, one after another, in either form.
 use Rattle.std.proofs.Common.{◌≡◌, ℕ, ◌+◌, Bool, true, false, ◌||◌, is_none, List, [], ◌∷◌, ◌++◌, length, nat_lt, take, Option, None, Some, option_map, Result, Ok, Err}
 use Rattle.std.proofs.Common.{refl, sym, ap, ◌∙◌, append_assoc, inl, inr, ◌⊎◌, arith}
-use Rattle.std.proofs.lemmas.Bool.{cases_Bool, ltb-false, ltb-true, or_parts}
+use Rattle.std.proofs.lemmas.Bool.{cases_Bool, lt-ltb, ltb-false, ltb-true, or_parts}
 use Rattle.std.proofs.lemmas.List.{append-nil, length-take-le, take_all}
 use Rattle.tilt_feed.specs.Events.{after_all}
 use Rattle.tilt_feed.specs.Feed.{empty_feed}
@@ -110,7 +110,7 @@ cut_or_long limit x =
       | inl long ↦
           let above = ltb-true limit (length x) long in
           let all = length-take-le (limit + 1) x (omega (arith, above)) in
-          inr (rw all (nat_lt_next limit), long)
+          inr (rw all (lt-ltb limit (limit + 1) (omega arith)), long)
       | inr short ↦ let within = ltb-false limit (length x) short in inl (take_all (limit + 1) x (omega (arith, within)))
     ]
 

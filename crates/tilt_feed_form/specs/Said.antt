@@ -1,6 +1,7 @@
 -- What the lines of a feed say, in either form: the events that they make, and why a line is bad (our own rule). A line is numbered by how
 -- many lines are before it.
-use Rattle.std.specs.Prelude.{ℕ, Bool, false, ◌||◌, is_none, if◌then◌else◌, List, [], ◌∷◌, length, Option, None, Some, option_map, Result, Ok, Err}
+use Rattle.std.specs.Prelude.{ℕ, Bool, false, ◌||◌, if◌then◌else◌, List, [], ◌∷◌, length}
+use Rattle.std.specs.Prelude.{Option, None, Some, is_none, option_map, Result, Ok, Err}
 use Rattle.tilt_feed.specs.Events.{after_all}
 use Rattle.tilt_feed.specs.Feed.{Feed, empty_feed}
 use Rattle.tilt_feed.specs.declared.event.Event.{Event}
@@ -76,10 +77,12 @@ line_step (forms.Readings setup) inputs number line (OfReadings kept) = of_readi
 
 -- why the line with a number is bad, if it is
 abbrev pub line_fault : FeedForm → List (List ℕ) → TextKept → ℕ → List ℕ → Option BadFeedLine
-line_fault (forms.Rows options) inputs (OfRows kept) number line = option_map bad.Rows (content_fault options kept (content inputs number line))
+line_fault (forms.Rows options) inputs (OfRows kept) number line =
+    option_map bad.Rows (content_fault options kept (content inputs number line))
 line_fault (forms.Rows options) inputs (OfReadings kept) number line = None
 line_fault (forms.Readings setup) inputs (OfRows kept) number line = None
-line_fault (forms.Readings setup) inputs (OfReadings kept) number line = option_map bad.Readings (readings.line_fault setup.form kept line)
+line_fault (forms.Readings setup) inputs (OfReadings kept) number line =
+    option_map bad.Readings (readings.line_fault setup.form kept line)
 
 -- why a line is bad if the feed ends before its LF
 abbrev pub no_end : FeedForm → BadFeedLine

@@ -4,11 +4,11 @@
 //! why it is bad, and the line that reports it. Lines of rows go through `tilt_feed_text` and `tilt_watermarks`, and lines of readings
 //! through `tilt_reading_text`.
 //!
-//! `specs/Said` says what lines do, over one form of definitions for both. There `events_of form inputs lines` is the one definition of the
-//! events that lines make, and `line_fault` says why a line is bad. The clauses of `FeedText::take` say that it is the step `line_step`.
+//! `specs/Said` says what lines do in both forms. There `events_of form inputs lines` is the one definition of the events that lines make,
+//! and `line_fault` says why a line is bad. The clauses of `FeedText::take` say that it is the step `line_step`.
 //!
-//! A bad line is skipped, unless bad lines stop the run. A feed of readings whose header hasn't come can't be read, so a bad line ends it in
-//! any case: `FeedText::is_headless` says so, and the caller of `take` stops then.
+//! A bad line is skipped, unless bad lines stop the run. A feed of readings can't be read without its header, so a bad line in its place
+//! ends the feed in any case. `FeedText::is_headless` says so, and the caller of `take` stops then.
 #![tactic(auto)]
 
 mod bad_feed_line;

@@ -6,8 +6,8 @@ use std::marker::Model;
 use tilt_conventions::Options;
 use tilt_reading_text::ReadingForm;
 
-/// How readings are written, and what those of each input mean. There are fewer than 2^32 inputs, and a maximum age is at least one tick. A
-/// clause sees it as plain data.
+/// How readings are written, and what those of each input mean. There are fewer than 2^32 inputs, and a maximum age is at least one tick.
+/// A clause sees it as plain data.
 #[derive(Debug, Drop)]
 pub struct ReadingSetup {
     form: ReadingForm,
