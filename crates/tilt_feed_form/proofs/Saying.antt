@@ -31,6 +31,7 @@ use Rattle.tilt_reading_text.specs.Said as readings
 use Rattle.tilt_reading_text.specs.Said.Content.{Blank, Header, Readings}
 use Rattle.tilt_reading_text.specs.declared.bad_reading_line.BadReadingLine.{BadReadingLine}
 use Rattle.tilt_reading_text.specs.declared.bad_reading_line.BadReadingLine.TheVariants as bad_reading
+use Rattle.tilt_reading_text.specs.declared.form.ReadingForm.{ReadingForm}
 use Rattle.tilt_watermarks.specs.Laws.{stepped}
 use Rattle.tilt_watermarks.specs.Steps.{Kept}
 use Rattle.tilt_watermarks.specs.Steps as steps
@@ -67,9 +68,9 @@ reading_bad (Ok (Header layout)) kept why e = absurd (cc e)
 reading_bad (Ok (Readings said)) kept why e = reading_refused said kept why (feed.line_fault kept.feed said) refl e
 reading_bad (Err w) kept why e = refl
 
-pub reading-bad : (setup : SetupParts) (line : List ℕ) (kept : readings.TextKept) (why : BadReadingLine) → readings.line_fault setup.form kept line ≡ Some why
-    → readings.line_step setup.form line kept ≡ record { kept = kept; events = [] }
-reading-bad setup line kept why e = reading_bad (readings.content setup.form kept.layout line) kept why e
+pub reading-bad : (form : ReadingForm) (line : List ℕ) (kept : readings.TextKept) (why : BadReadingLine) → readings.line_fault form kept line ≡ Some why
+    → readings.line_step form line kept ≡ record { kept = kept; events = [] }
+reading-bad form line kept why e = reading_bad (readings.content form kept.layout line) kept why e
 
 -- and so no bad line does anything
 bad-step : (form : FeedForm) (inputs : List (List ℕ)) (number : ℕ) (line : List ℕ) (kept : TextKept) (why : BadFeedLine)
@@ -81,7 +82,7 @@ bad-step (forms.Rows options) inputs number line (OfReadings kept) why e = refl
 bad-step (forms.Readings setup) inputs number line (OfRows kept) why e = refl
 bad-step (forms.Readings setup) inputs number line (OfReadings kept) why e =
     let fault = mapped bad.Readings (readings.line_fault setup.form kept line) why e in
-    ap of_readings (reading-bad setup line kept fault.0 fault.1)
+    ap of_readings (reading-bad setup.form line kept fault.0 fault.1)
 
 pub bad-same : (form : FeedForm) (inputs : List (List ℕ)) (number : ℕ) (line : List ℕ) (state : FeedState) (why : BadFeedLine)
     → line_fault form inputs state.kept number line ≡ Some why → after_line form inputs number line state ≡ state

@@ -8,7 +8,7 @@
 //! and `line_fault` says why a line is bad. The clauses of `FeedText::take` say that it is the step `line_step`.
 //!
 //! A bad line is skipped, unless bad lines stop the run. A feed of readings can't be read without its header, so a bad line in its place
-//! ends the feed in any case. `FeedText::is_headless` says so, and the caller of `take` stops then.
+//! always ends the feed. `FeedText::is_headless` says so, and the caller of `take` stops then.
 #![tactic(auto)]
 
 mod bad_feed_line;
