@@ -29,7 +29,7 @@ enum FeedLines {
 impl FeedText {
     ghost use Rattle.std.specs.List.{AllByRecursion};
     ghost use Rattle.std.specs.Option.{IfSome};
-    ghost use Rattle.std.specs.Prelude.{◌×◌, ◌<◌, ◌^◌, [], IfOk, OnErr, Some, length};
+    ghost use Rattle.std.specs.Prelude.{◌<◌, ◌^◌, [], IfOk, OnErr, length};
     ghost use Rattle.tilt_feed_form.specs.Machine.{form_of, kept_of};
     ghost use Rattle.tilt_feed_form.specs.Said.{first_kept, is_headless, kept_if_rows, line_fault, line_step, no_end, options_if_rows};
     ghost use Rattle.tilt_feed_form.specs.Said.TextKept.{OfRows};
