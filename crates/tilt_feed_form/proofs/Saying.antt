@@ -1,5 +1,5 @@
 -- What lines say, one after another, in either form.
-use Rattle.std.proofs.Common.{◌≡◌, ℕ, ◌+◌, Bool, true, false, ◌||◌, is_none, List, [], ◌∷◌, ◌++◌, length, nat_lt, take, Option, None, Some, option_map, Result, Ok, Err}
+use Rattle.std.proofs.Common.{◌≡◌, ℕ, ◌+◌, Bool, true, false, is_none, List, [], ◌∷◌, ◌++◌, length, nat_lt, take, Option, None, Some, option_map, Result, Ok, Err}
 use Rattle.std.proofs.Common.{refl, sym, ap, ◌∙◌, append_assoc, inl, inr, ◌⊎◌, arith}
 use Rattle.std.proofs.lemmas.Bool.{cases_Bool, lt-ltb, ltb-false, ltb-true, or_parts}
 use Rattle.std.proofs.lemmas.List.{append-nil, length-take-le, take_all}
@@ -152,9 +152,6 @@ rows-same options inputs number state [] = refl
 rows-same options inputs number state (x ∷ xs) =
     ap (λ (later : FeedState). after_lines (forms.Rows options) inputs (next_count number) later xs) (row_same options (content inputs number x) state)
     ∙ rows-same options inputs (next_count number) (rows.after_line options inputs number x state) xs
-
-pub first-same : (options : Options) (inputs : ℕ) → first_state (forms.Rows options) inputs ≡ of_row_state (rows.first_state inputs)
-first-same options inputs = refl
 
 -- and lines of readings what they do to their text
 readings-same : (setup : SetupParts) (inputs : List (List ℕ)) (number : ℕ) (state : readings.TextState) (lines : List (List ℕ))

@@ -1,6 +1,6 @@
 -- What the lines of a feed say, in either form: the events that they make, and why a line is bad (our own rule). A line is numbered by how
 -- many lines are before it.
-use Rattle.std.specs.Prelude.{ℕ, Bool, false, ◌||◌, if◌then◌else◌, List, [], ◌∷◌, length}
+use Rattle.std.specs.Prelude.{ℕ, Bool, false, ◌||◌, if◌then◌else◌, List, [], ◌∷◌}
 use Rattle.std.specs.Prelude.{Option, None, Some, is_none, option_map, Result, Ok, Err}
 use Rattle.tilt_feed.specs.Events.{after_all}
 use Rattle.tilt_feed.specs.Feed.{Feed, empty_feed}
