@@ -18,16 +18,23 @@ use Rattle.tilt_feed.specs.Printed.{printed}
 use Rattle.tilt_feed.specs.declared.edge.Edge.{Edge}
 use Rattle.tilt_feed.specs.declared.event.Event.{Event}
 use Rattle.tilt_feed.specs.declared.open_row.OpenRow.{OpenRow}
-use Rattle.tilt_feed_text.proofs.Saying.{after-lines, lines-said}
+use Rattle.tilt_feed_form.proofs.Saying.{rows-same}
 use Rattle.tilt_feed_text.proofs.Splitting.{are-ended}
-use Rattle.tilt_feed_text.specs.Said.{FeedState, after_lines, events_of, first_state, lines_said, number_after}
+use Rattle.tilt_feed_form.specs.Said.{FeedState, after_lines, first_state}
+use Rattle.tilt_feed_form.specs.Said.TextKept.{OfRows}
+use Rattle.tilt_feed_form.specs.declared.feed_form.FeedForm.{FeedForm}
+use Rattle.tilt_feed_form.specs.declared.feed_form.FeedForm.TheVariants.{Readings, Rows}
+use Rattle.tilt_feed_text.proofs.Saying.{lines-said}
+use Rattle.tilt_feed_text.specs.Said.{lines_said, number_after}
+use Rattle.tilt_feed_text.specs.Said as rows
 use Rattle.tilt_feed_text.specs.Split.{ended, whole_lines}
 use Rattle.tilt_input_state.specs.Resume.{first_read, left_input, resume_tick}
 use Rattle.tilt_live.proofs.Ended.{ends-within}
 use Rattle.tilt_live.specs.Resuming.{IsLeft}
+use Rattle.tilt_live_run.proofs.Newly.{state-fed}
 use Rattle.tilt_live_run.proofs.Upto.{printed-fills}
 use Rattle.tilt_live_run.specs.Joined.{joined, rows_at}
-use Rattle.tilt_live_run.specs.Left.{each_left, inputs_left, progress_of, rows_left, state_left}
+use Rattle.tilt_live_run.specs.Left.{each_left, inputs_left, is_rows, progress_of, row_kept, row_options, rows_left, state_left}
 use Rattle.tilt_live_run.specs.Runs.{number_of, state_after}
 use Rattle.tilt_live_run.specs.declared.run_options.RunOptions.{RunOptions}
 use Rattle.tilt_live_state.specs.State.{InputParts, LiveStateParts, feed_of, kept_of, waiting_of}
@@ -40,6 +47,7 @@ use Rattle.tilt_watermarks.proofs.Stepping.{all-steps, keeps-first, kept-of}
 use Rattle.tilt_watermarks.specs.Held.{Waiting}
 use Rattle.tilt_watermarks.specs.Laws.{IsFit, IsKeptOf, edges_of, watermarked}
 use Rattle.tilt_watermarks.specs.Steps.{nothing_kept}
+use Rattle.tilt_watermarks.specs.declared.options.Options.{Options}
 
 -- rows by their number, and none
 pub rows-at : (known : List InputFeed) (number : ℕ) (input : InputFeed) → slice_get known number ≡ Some input → rows_at known number ≡ input.rows
@@ -174,7 +182,7 @@ left-inputs core feed lateness (x ∷ inputs) (w ∷ waiting) same settled fit =
 
 -- the state that is left is one of the query
 pub left-state : (accepted : AcceptedParts) (options : RunOptions) (state : FeedState) (events : List Event) (query : List StatementTree) (bytes lines written : ℕ)
-    → IsAccepted accepted → state.feed ≡ fed accepted.core events → IsKeptOf options.watermarks.lateness state.kept state.feed
+    → IsAccepted accepted → state.feed ≡ fed accepted.core events → IsKeptOf (row_options options.form).lateness (row_kept state.kept) state.feed
     → IsStateOf accepted.core (record { query = query; progress = progress_of options accepted.core state bytes lines written; inputs = inputs_left accepted.core state })
 left-state accepted options state events query bytes lines written valid is keeps =
     let core = accepted.core in
@@ -183,42 +191,61 @@ left-state accepted options state events query bytes lines written valid is keep
     record {
       low = within.0;
       high = within.1;
-      counted = left-many core state.feed state.feed.inputs state.kept.inputs keeps.edges ∙ ap (λ (f : Feed). length f.inputs) is ∙ fed-length core events;
-      inputs = left-inputs core state.feed options.watermarks.lateness state.feed.inputs state.kept.inputs keeps.edges
+      counted = left-many core state.feed state.feed.inputs (row_kept state.kept).inputs keeps.edges ∙ ap (λ (f : Feed). length f.inputs) is ∙ fed-length core events;
+      inputs = left-inputs core state.feed (row_options options.form).lateness state.feed.inputs (row_kept state.kept).inputs keeps.edges
           (subst (λ (f : Feed). AreSettled f.finished f.inputs) (sym is) (fed-settled (length core.inputs) events)) keeps.held;
     }
 
+-- watermarks keep what belongs to the feed of rows
+rows-belong : (options : Options) (inputs : List (List ℕ)) (lines : List (List ℕ))
+    → (let state = rows.after_lines options inputs 0 (rows.first_state (length inputs)) lines in IsKeptOf options.lateness state.kept state.feed)
+rows-belong options inputs lines =
+    let many = length inputs in
+    let said = lines_said inputs 0 lines in
+    let steps = all-steps options said (nothing_kept many) (empty_feed many) (keeps-first options.lateness many) in
+    let keeps = (watermarked options many said).kept in
+    subst (λ (s : rows.FeedState). IsKeptOf options.lateness s.kept s.feed) (lines-said options inputs 0 (rows.first_state many) lines)
+    (subst (λ (f : Feed). IsKeptOf options.lateness keeps f) (sym steps.goes.is) (kept-of options.lateness keeps steps.later steps.keeps))
+
+-- a text of rows keeps what its watermarks keep
+record IsKept (form : FeedForm) (state : FeedState) : Type 0 where
+  is : OfRows (row_kept state.kept) ≡ state.kept
+  belongs : IsKeptOf (row_options form).lateness (row_kept state.kept) state.feed
+
+lines-kept : (form : FeedForm) (inputs : List (List ℕ)) (lines : List (List ℕ)) → is_rows form ≡ true
+    → IsKept form (after_lines form inputs 0 (first_state form (length inputs)) lines)
+lines-kept (Rows options) inputs lines are =
+    subst (IsKept (Rows options)) (sym (rows-same options inputs 0 (rows.first_state (length inputs)) lines))
+    (record { is = refl; belongs = rows-belong options inputs lines })
+lines-kept (Readings setup) inputs lines are = absurd (cc are)
+
 -- the watermarks of a run keep what belongs to its feed
-pub state-kept : (options : RunOptions) (core : CoreParts) (bytes : List ℕ)
-    → IsKeptOf options.watermarks.lateness (state_after options core bytes).kept (state_after options core bytes).feed
-state-kept options core bytes =
-    let many = length core.inputs in
-    let lateness = options.watermarks.lateness in
-    let said = lines_said core.inputs 0 (whole_lines bytes) in
-    let steps = all-steps options.watermarks said (nothing_kept many) (empty_feed many) (keeps-first lateness many) in
-    let keeps = (watermarked options.watermarks many said).kept in
-    subst (λ (s : FeedState). IsKeptOf lateness s.kept s.feed) (lines-said options.watermarks core.inputs 0 (first_state many) (whole_lines bytes))
-    (subst (λ (f : Feed). IsKeptOf lateness keeps f) (sym steps.goes.is) (kept-of lateness keeps steps.later steps.keeps))
+pub state-kept : (options : RunOptions) (core : CoreParts) (bytes : List ℕ) → is_rows options.form ≡ true
+    → (let state = state_after options core bytes in IsKeptOf (row_options options.form).lateness (row_kept state.kept) state.feed)
+state-kept options core bytes are = (lines-kept options.form core.inputs (whole_lines bytes) are).belongs
 
 -- what a state says that a run left
-pub state-left : (options : RunOptions) (core : CoreParts) (query : List StatementTree) (bytes : List ℕ) (written : ℕ) (s : LiveStateParts)
+pub state-left : (options : RunOptions) (core : CoreParts) (query : List StatementTree) (bytes : List ℕ) (written : ℕ) (s : LiveStateParts) → is_rows options.form ≡ true
     → s ≡ state_left options core query bytes written
     → IsLeft core (state_after options core bytes).feed s.progress.from s.progress.finished (map feed_of s.inputs)
-    × (kept_of s ≡ (state_after options core bytes).kept)
-state-left options core query bytes written s is =
+    × (OfRows (kept_of s) ≡ (state_after options core bytes).kept)
+state-left options core query bytes written s are is =
     let state = state_after options core bytes in
-    let keeps = state-kept options core bytes in
-    let feeds = left-feeds core state.feed state.feed.inputs state.kept.inputs keeps.edges in
-    let waits = left-waiting core state.feed state.feed.inputs state.kept.inputs keeps.edges in
-    rw is (
-      record {
-        events = events_of options.watermarks core.inputs (whole_lines bytes);
-        feed_is = sym (after-lines options.watermarks core.inputs (whole_lines bytes));
+    let kept = row_kept state.kept in
+    let keeps = state-kept options core bytes are in
+    let of = state-fed options core bytes in
+    let feeds = left-feeds core state.feed state.feed.inputs kept.inputs keeps.edges in
+    let waits = left-waiting core state.feed state.feed.inputs kept.inputs keeps.edges in
+    let own : kept_of s ≡ kept =
+    rw is (λ k. record { inputs = waits k; finished = (sym keeps.finished) k; greatest = kept.greatest; latest = kept.latest }) in (
+      rw is record {
+        events = of.events;
+        feed_is = ap (λ (s : FeedState). s.feed) of.is;
         from_is = refl;
         finished_is = refl;
         inputs_are = feeds;
       },
-      (λ k. record { inputs = waits k; finished = (sym keeps.finished) k; greatest = state.kept.greatest; latest = state.kept.latest }),
+      ap OfRows own ∙ (lines-kept options.form core.inputs (whole_lines bytes) are).is,
     )
 
 -- what is valid of inputs: the feed of each is in order,
@@ -249,7 +276,7 @@ pub state-ended : (options : RunOptions) (core : CoreParts) (query : List Statem
     }) (state_left options core query (ended bytes) written)
 state-ended options core query bytes count written is =
     let lines = sym (are-ended bytes).lines in
-    let state = λ (list : List (List ℕ)). after_lines options.watermarks core.inputs 0 (first_state (length core.inputs)) list in
+    let state = λ (list : List (List ℕ)). after_lines options.form core.inputs 0 (first_state options.form (length core.inputs)) list in
     λ k. record {
       query = query;
       progress = progress_of options core (state (lines k)) (is k) (number_after 0 (lines k)) written;

@@ -1,12 +1,12 @@
 -- A line that is taken: it stops the run, or the run goes on.
-use Rattle.std.proofs.Common.{◌≡◌, ℕ, ℤ, Bool, true, false, if◌then◌else◌, List, [], ◌++◌, Option, Some, Result, Ok, Err, refl, length, drop, subst}
+use Rattle.std.proofs.Common.{◌≡◌, ℕ, ℤ, Bool, true, false, if◌then◌else◌, List, [], ◌++◌, Option, Some, Result, Ok, Err, refl, sym, ap, ◌∙◌, length, drop, subst}
 use Rattle.tilt_core.specs.Core.{CoreParts}
 use Rattle.tilt_feed.specs.Feed.{Feed}
 use Rattle.tilt_feed.specs.Printed.{begun, printed}
-use Rattle.tilt_feed_text.proofs.Saying.{bad-same}
-use Rattle.tilt_feed_text.specs.Report.{report, report_of}
-use Rattle.tilt_feed_text.specs.Said.{FeedState, after_line, content, line_fault, stops}
-use Rattle.tilt_feed_text.specs.declared.bad_line.BadLine.{BadLine}
+use Rattle.tilt_feed_form.proofs.Saying.{bad-same}
+use Rattle.tilt_feed_form.specs.Report.{report, report_of}
+use Rattle.tilt_feed_form.specs.Said.{FeedState, TextKept, after_line, ends, line_fault, stops}
+use Rattle.tilt_feed_form.specs.declared.bad_feed_line.BadFeedLine.{BadFeedLine}
 use Rattle.tilt_live_run.proofs.Reporting.{reports-whole}
 use Rattle.tilt_live_run.specs.Output.{begun_news, begun_start, news}
 use Rattle.tilt_live_run.specs.Reported.{Reported}
@@ -18,14 +18,23 @@ use Rattle.tilt_outside.specs.Counts.{next_count}
 use Rattle.tilt_stream.specs.Text.{lines_of}
 
 module _ {K : Type 0} (tells : Type 0) (written : K → List ℕ) (faults : K → ℕ) (core : CoreParts) (options : RunOptions) where
+  -- a bad line stops the run or not, by what is kept after it
+  pub bad-stops : (number : ℕ) (state : FeedState) (line : List ℕ) (why : BadFeedLine) (kept : TextKept) (strict : Bool)
+      → line_fault options.form core.inputs state.kept number line ≡ Some why → kept ≡ (after_line options.form core.inputs number line state).kept
+      → strict ≡ options.strict → stops options.strict options.form core.inputs state number line ≡ ends strict kept (Some why)
+  bad-stops number state line why kept strict bad is same =
+      let stays : after_line options.form core.inputs number line state ≡ state = bad-same options.form core.inputs number line state why bad in
+      let as : state.kept ≡ kept = sym (is ∙ ap (λ (s : FeedState). s.kept) stays) in
+      λ k. ends ((sym same) k) (as k) (bad k)
+
   -- a bad line stopped the run
-  pub line-stopped : (err err_then : K) (Is : ℕ → FeedState → Type 0) (Holds : FeedState → Type 0) (number : ℕ) (state : FeedState) (line : List ℕ) (why : BadLine)
-      (result : Result (Unit {0}) Stop) → result ≡ Err stop.BadLine → line_fault options.watermarks core.inputs state number line ≡ Some why → options.strict ≡ true
-      → Reported tells written faults err err_then (report (next_count number) why) → Holds (after_line options.watermarks core.inputs number line state)
+  pub line-stopped : (err err_then : K) (Is : ℕ → FeedState → Type 0) (Holds : FeedState → Type 0) (number : ℕ) (state : FeedState) (line : List ℕ) (why : BadFeedLine)
+      (result : Result (Unit {0}) Stop) → result ≡ Err stop.BadLine → line_fault options.form core.inputs state.kept number line ≡ Some why
+      → stops options.strict options.form core.inputs state number line ≡ true
+      → Reported tells written faults err err_then (report (next_count number) why) → Holds (after_line options.form core.inputs number line state)
       → HasTakenLine tells written faults err err_then Is Holds core options number state line result
-  line-stopped err err_then Is Holds number state line why result is bad strict told holds =
-      let stopped : stops options.strict options.watermarks core.inputs state number line ≡ true = rw (bad, strict) refl in
-      let same : after_line options.watermarks core.inputs number line state ≡ state = bad-same options.watermarks state (content core.inputs number line) why bad in
+  line-stopped err err_then Is Holds number state line why result is bad stopped told holds =
+      let same : after_line options.form core.inputs number line state ≡ state = bad-same options.form core.inputs number line state why bad in
       record {
         reports = rw bad (reports-whole tells written faults err err_then (report (next_count number) why) result told);
         goes_on = rw is tt;
@@ -35,9 +44,9 @@ module _ {K : Type 0} (tells : Type 0) (written : K → List ℕ) (faults : K �
 
   -- the run goes on
   pub line-taken : (err err_then : K) (Is : ℕ → FeedState → Type 0) (Holds : FeedState → Type 0) (number : ℕ) (state : FeedState) (line : List ℕ)
-      → stops options.strict options.watermarks core.inputs state number line ≡ false
-      → Reported tells written faults err err_then (report_of number (line_fault options.watermarks core.inputs state number line))
-      → Is (next_count number) (after_line options.watermarks core.inputs number line state)
+      → stops options.strict options.form core.inputs state number line ≡ false
+      → Reported tells written faults err err_then (report_of number (line_fault options.form core.inputs state.kept number line))
+      → Is (next_count number) (after_line options.form core.inputs number line state)
       → HasTakenLine tells written faults err err_then Is Holds core options number state line (Ok tt)
   line-taken err err_then Is Holds number state line goes told on = record {
     reports = reports-whole tells written faults err err_then _ (Ok (tt {0})) told;

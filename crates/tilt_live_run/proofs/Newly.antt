@@ -1,5 +1,5 @@
 -- What is newly written for lines: all at once, or line by line.
-use Rattle.std.proofs.Common.{◌≡◌, ℕ, ℤ, Bool, true, false, List, [], ◌∷◌, ◌++◌, codes, Option, None, Some, Result, Ok, Err, drop, length, refl, sym, ap, ◌∙◌, append_assoc, subst}
+use Rattle.std.proofs.Common.{◌≡◌, ℕ, ℤ, Bool, true, false, List, [], ◌∷◌, ◌++◌, codes, Option, None, Some, drop, length, refl, sym, ap, ◌∙◌, append_assoc, subst}
 use Rattle.std.proofs.Math.Seq.{drop-append_seam, drop-length}
 use Rattle.std.proofs.lemmas.Bool.Decides.{Decides-int_eq}
 use Rattle.std.proofs.lemmas.List.{append-nil}
@@ -9,11 +9,10 @@ use Rattle.tilt_feed.specs.Feed.{Feed, empty_feed}
 use Rattle.tilt_feed.specs.Laws.{ListGoesOn, fed}
 use Rattle.tilt_feed.specs.Printed.{Begun, begun, printed}
 use Rattle.tilt_feed.specs.declared.event.Event.{Event}
-use Rattle.tilt_feed_line.specs.declared.line.Line.{Line}
-use Rattle.tilt_feed_text.proofs.Saying.{after-append, after-lines}
-use Rattle.tilt_feed_text.specs.Said.{FeedState, after_content, after_line, after_lines, content, events_of, first_state, taken_from}
+use Rattle.tilt_feed_form.proofs.Saying.{after-taken}
+use Rattle.tilt_feed_text.proofs.Saying.{after-append}
+use Rattle.tilt_feed_form.specs.Said.{FeedState, TextKept, after_line, after_lines, first_kept, first_state, line_step, taken_from}
 use Rattle.tilt_feed_text.specs.Split.{whole_lines}
-use Rattle.tilt_feed_text.specs.declared.bad_line.BadLine.{BadLine}
 use Rattle.tilt_live_run.specs.Output.{begun_news, begun_start, first_news, is_start, news, news_from, output}
 use Rattle.tilt_live_run.specs.Runs.{added, feed_of_lines, number_of, state_after, state_taken, taken_of}
 use Rattle.tilt_live_run.specs.declared.run_options.RunOptions.{RunOptions}
@@ -21,8 +20,6 @@ use Rattle.tilt_outside.specs.Counts.{next_count}
 use Rattle.tilt_series.proofs.Writes.{lines_of-append}
 use Rattle.tilt_stream.specs.Snap.{Snapshot}
 use Rattle.tilt_stream.specs.Text.{lines_of, text_of}
-use Rattle.tilt_watermarks.specs.Laws.{stepped}
-use Rattle.tilt_watermarks.specs.Steps.{Kept, nothing_kept}
 
 -- what has begun is no news of itself
 start_same : (start : ℤ) → is_start (Some start) start ≡ true
@@ -46,68 +43,80 @@ added_twice a b c first then_more =
     let both : drop (length a) c ≡ first.rest ++ then_more.rest = rw whole (drop-append_seam a (first.rest ++ then_more.rest)) in
     rw (one, two, both) (sym (lines_of-append first.rest then_more.rest))
 
-module _ (options : RunOptions) (core : CoreParts) (valid : IsCore core) where
-  -- where a feed is whose watermarks keep this, after events of it
-  abbrev pub state_of : Kept → List Event → FeedState
+module _ (options : RunOptions) (core : CoreParts) where
+  -- where a feed is whose text keeps this, after events of it
+  abbrev pub state_of : TextKept → List Event → FeedState
   state_of kept events = record { kept = kept; feed = fed core events }
 
   -- a line adds events
-  record AddsEvents (kept : Kept) (events : List Event) (after : FeedState) : Type 0 where
-    kept_then : Kept
+  record AddsEvents (kept : TextKept) (events : List Event) (after : FeedState) : Type 0 where
+    kept_then : TextKept
     more : List Event
     is : after ≡ state_of kept_then (events ++ more)
 
-  line_adds : (number : ℕ) (kept : Kept) (events : List Event) (line : List ℕ)
-      → AddsEvents kept events (after_line options.watermarks core.inputs number line (state_of kept events))
-  line_adds number kept events line = by (content core.inputs number line)
-    where
-      by : (said : Result (Option Line) BadLine) → AddsEvents kept events (after_content options.watermarks said (state_of kept events))
-      by (Ok None) = record { kept_then = kept; more = []; is = rw (append-nil events) refl }
-      by (Ok (Some said)) =
-          let step = stepped options.watermarks said kept in
-          record {
-            kept_then = step.kept;
-            more = step.events;
-            is = ap (λ (f : Feed). record { kept = step.kept; feed = f }) (sym (after-append events step.events (empty_feed (length core.inputs))));
-          }
-      by (Err why) = record { kept_then = kept; more = []; is = rw (append-nil events) refl }
+  line_adds : (number : ℕ) (kept : TextKept) (events : List Event) (line : List ℕ)
+      → AddsEvents kept events (after_line options.form core.inputs number line (state_of kept events))
+  line_adds number kept events line =
+      let step = line_step options.form core.inputs number line kept in
+      record {
+        kept_then = step.kept;
+        more = step.events;
+        is = ap (λ (f : Feed). record { kept = step.kept; feed = f }) (sym (after-append events step.events (empty_feed (length core.inputs))));
+      }
 
-  -- what was printed goes on after a line, and after more of them
-  line_goes_on : (number : ℕ) (kept : Kept) (events : List Event) (line : List ℕ)
-      → ListGoesOn (printed core (fed core events)) (printed core (after_line options.watermarks core.inputs number line (state_of kept events)).feed)
-  line_goes_on number kept events line =
+  -- so the feed of a query after lines is one of events
+  pub record IsFed (state : FeedState) : Type 0 where
+    pub events : List Event
+    pub is : state ≡ state_of state.kept events
+
+  lines_fed : (number : ℕ) (kept : TextKept) (events : List Event) (lines : List (List ℕ))
+      → IsFed (after_lines options.form core.inputs number (state_of kept events) lines)
+  lines_fed number kept events [] = record { events = events; is = refl }
+  lines_fed number kept events (line ∷ lines) =
       let adds = line_adds number kept events line in
+      subst (λ (s : FeedState). IsFed (after_lines options.form core.inputs (next_count number) s lines)) (sym adds.is)
+      (lines_fed (next_count number) adds.kept_then (events ++ adds.more) lines)
+
+  pub state-fed : (bytes : List ℕ) → IsFed (state_after options core bytes)
+  state-fed bytes = lines_fed 0 (first_kept options.form (length core.inputs)) [] (whole_lines bytes)
+
+module _ (options : RunOptions) (core : CoreParts) (valid : IsCore core) where
+  -- what was printed goes on after a line, and after more of them
+  line_goes_on : (number : ℕ) (kept : TextKept) (events : List Event) (line : List ℕ)
+      → ListGoesOn (printed core (fed core events)) (printed core (after_line options.form core.inputs number line (state_of options core kept events)).feed)
+  line_goes_on number kept events line =
+      let adds = line_adds options core number kept events line in
       rw (adds.is, after-append events adds.more (empty_feed (length core.inputs))) (fed-printed core events adds.more valid)
 
   list_then : (a b c : List Snapshot) → ListGoesOn a b → ListGoesOn b c → ListGoesOn a c
   list_then a b c one two = record { rest = one.rest ++ two.rest; is = two.is ∙ rw one.is (append_assoc a one.rest two.rest) }
 
-  lines_go_on : (number : ℕ) (kept : Kept) (events : List Event) (lines : List (List ℕ))
-      → ListGoesOn (printed core (fed core events)) (printed core (after_lines options.watermarks core.inputs number (state_of kept events) lines).feed)
+  lines_go_on : (number : ℕ) (kept : TextKept) (events : List Event) (lines : List (List ℕ))
+      → ListGoesOn (printed core (fed core events)) (printed core (after_lines options.form core.inputs number (state_of options core kept events) lines).feed)
   lines_go_on number kept events [] = record { rest = []; is = sym (append-nil (printed core (fed core events))) }
   lines_go_on number kept events (line ∷ lines) =
-      let after = after_line options.watermarks core.inputs number line (state_of kept events) in
-      let adds = line_adds number kept events line in
+      let after = after_line options.form core.inputs number line (state_of options core kept events) in
+      let adds = line_adds options core number kept events line in
       list_then (printed core (fed core events)) (printed core after.feed) _ (line_goes_on number kept events line)
-      (subst (λ (s : FeedState). ListGoesOn (printed core s.feed) (printed core (after_lines options.watermarks core.inputs (next_count number) s lines).feed)) (sym adds.is)
+      (subst (λ (s : FeedState). ListGoesOn (printed core s.feed) (printed core (after_lines options.form core.inputs (next_count number) s lines).feed)) (sym adds.is)
       (lines_go_on (next_count number) adds.kept_then (events ++ adds.more) lines))
 
   -- without what has begun, line by line is the same as at once
-  pub news-at_once : options.with_begun ≡ false → (number : ℕ) (kept : Kept) (events : List Event) (lines : List (List ℕ))
-      → news_from options core number (state_of kept events) lines
-      ≡ news false core (fed core events) (after_lines options.watermarks core.inputs number (state_of kept events) lines).feed
+  pub news-at_once : options.with_begun ≡ false → (number : ℕ) (kept : TextKept) (events : List Event) (lines : List (List ℕ))
+      → news_from options core number (state_of options core kept events) lines
+      ≡ news false core (fed core events) (after_lines options.form core.inputs number (state_of options core kept events) lines).feed
   news-at_once quiet number kept events [] = sym (news-same false core (fed core events))
   news-at_once quiet number kept events (line ∷ lines) =
       let before = fed core events in
-      let after = after_line options.watermarks core.inputs number line (state_of kept events) in
-      let last = after_lines options.watermarks core.inputs (next_count number) after lines in
-      let adds = line_adds number kept events line in
+      let after = after_line options.form core.inputs number line (state_of options core kept events) in
+      let last = after_lines options.form core.inputs (next_count number) after lines in
+      let adds = line_adds options core number kept events line in
       let rest : ListGoesOn (printed core after.feed) (printed core last.feed) =
-      subst (λ (s : FeedState). ListGoesOn (printed core s.feed) (printed core (after_lines options.watermarks core.inputs (next_count number) s lines).feed)) (sym adds.is)
+      subst (λ (s : FeedState). ListGoesOn (printed core s.feed) (printed core (after_lines options.form core.inputs (next_count number) s lines).feed)) (sym adds.is)
       (lines_go_on (next_count number) adds.kept_then (events ++ adds.more) lines) in
       let later : news_from options core (next_count number) after lines ≡ news false core after.feed last.feed =
       subst (λ (s : FeedState). news_from options core (next_count number) s lines
-      ≡ news false core s.feed (after_lines options.watermarks core.inputs (next_count number) s lines).feed) (sym adds.is)
+      ≡ news false core s.feed (after_lines options.form core.inputs (next_count number) s lines).feed) (sym adds.is)
       (news-at_once quiet (next_count number) adds.kept_then (events ++ adds.more) lines) in
       rw (
         quiet,
@@ -118,39 +127,33 @@ module _ (options : RunOptions) (core : CoreParts) (valid : IsCore core) where
       )
       (added_twice (printed core before) (printed core after.feed) (printed core last.feed) (line_goes_on number kept events line) rest)
 
-  -- the feed of a query after lines is that of their events
-  lines_fed : (lines : List (List ℕ)) → after_lines options.watermarks core.inputs 0 (first_state (length core.inputs)) lines
-      ≡ state_of (after_lines options.watermarks core.inputs 0 (first_state (length core.inputs)) lines).kept (events_of options.watermarks core.inputs lines)
-  lines_fed lines =
-      let after = after_lines options.watermarks core.inputs 0 (first_state (length core.inputs)) lines in
-      ap (λ (f : Feed). record { kept = after.kept; feed = f }) (sym (after-lines options.watermarks core.inputs lines))
-
   -- of a piece: all of its lines at once
   pub piece-at_once : (bytes piece : List ℕ) → options.with_begun ≡ false
       → news options.with_begun core (state_after options core bytes).feed (state_taken options core bytes piece).feed ≡ added options core bytes piece
   piece-at_once bytes piece quiet =
       let after = state_after options core bytes in
+      let of = state-fed options core bytes in
       let lines = taken_of options core bytes piece in
       ap (λ (b : Bool). news b core after.feed (state_taken options core bytes piece).feed) quiet
-      ∙ sym (subst (λ (s : FeedState). news_from options core (number_of bytes) s lines ≡ news false core s.feed (after_lines options.watermarks core.inputs (number_of bytes) s lines).feed)
-      (sym (lines_fed (whole_lines bytes))) (news-at_once quiet (number_of bytes) after.kept (events_of options.watermarks core.inputs (whole_lines bytes)) lines))
+      ∙ sym (subst (λ (s : FeedState). news_from options core (number_of bytes) s lines ≡ news false core s.feed (after_lines options.form core.inputs (number_of bytes) s lines).feed)
+      (sym of.is) (news-at_once quiet (number_of bytes) after.kept of.events lines))
 
   -- all that is written for lines is what can be printed after their events
   pub output-printed : options.with_begun ≡ false → (lines : List (List ℕ))
       → output options core lines ≡ text_of (printed core (feed_of_lines options core lines))
   output-printed quiet lines =
-      let kept = nothing_kept (length core.inputs) in
-      let taken = taken_from options.strict options.watermarks core.inputs 0 (first_state (length core.inputs)) lines in
+      let kept = first_kept options.form (length core.inputs) in
+      let taken = taken_from options.strict options.form core.inputs 0 (first_state options.form (length core.inputs)) lines in
       let first = printed core (fed core []) in
-      let last = printed core (after_lines options.watermarks core.inputs 0 (state_of kept []) taken).feed in
+      let last = printed core (after_lines options.form core.inputs 0 (state_of options core kept []) taken).feed in
       let on : ListGoesOn first last = lines_go_on 0 kept [] taken in
       let news_is : drop (length first) last ≡ on.rest = rw on.is (drop-append_seam first on.rest) in
       let all : lines_of first ++ lines_of (drop (length first) last) ≡ lines_of last =
       ap (λ (list : List Snapshot). lines_of first ++ lines_of list) news_is ∙ sym (lines_of-append first on.rest) ∙ ap lines_of (sym on.is) in
       let header = codes "start,end,value\n" in
-      let written : first_news false core ++ news false core (fed core []) (after_lines options.watermarks core.inputs 0 (state_of kept []) taken).feed ≡ text_of last =
+      let written : first_news false core ++ news false core (fed core []) (after_lines options.form core.inputs 0 (state_of options core kept []) taken).feed ≡ text_of last =
       rw (append-nil (lines_of first), append-nil (lines_of (drop (length first) last)), ← all) (append_assoc header (lines_of first) (lines_of (drop (length first) last))) in
       ap (λ (text : List ℕ). first_news options.with_begun core ++ text) (news-at_once quiet 0 kept [] taken)
-      ∙ ap (λ (b : Bool). first_news b core ++ news false core (fed core []) (after_lines options.watermarks core.inputs 0 (state_of kept []) taken).feed) quiet
+      ∙ ap (λ (b : Bool). first_news b core ++ news false core (fed core []) (after_lines options.form core.inputs 0 (state_of options core kept []) taken).feed) quiet
       ∙ written
-      ∙ ap (λ (s : FeedState). text_of (printed core s.feed)) (lines_fed taken)
+      ∙ ap (λ (f : Feed). text_of (printed core f)) (sym (after-taken options.strict options.form core.inputs lines))

@@ -1,11 +1,11 @@
 -- A piece that is taken, line by line.
-use Rattle.std.proofs.Common.{◌≡◌, ℕ, List, [], ◌++◌, None, Some, Result, Ok, Err, refl, sym, ◌∙◌, inl, inr, OnOk}
+use Rattle.std.proofs.Common.{◌≡◌, ℕ, List, [], ◌++◌, None, Some, Result, Ok, Err, refl, sym, ap, ◌∙◌, inl, inr, OnOk}
 use Rattle.std.proofs.lemmas.Bool.{cases_Bool}
 use Rattle.std.proofs.lemmas.List.{append-nil}
 use Rattle.tilt_core.specs.Core.{CoreParts}
 use Rattle.tilt_feed_text.proofs.Splitting.{lines-none, lines-until, unfinished-none, unfinished-until}
-use Rattle.tilt_feed_text.specs.Report.{report_of}
-use Rattle.tilt_feed_text.specs.Said.{FeedState, after_line, content, line_fault, stops}
+use Rattle.tilt_feed_form.specs.Report.{report_of}
+use Rattle.tilt_feed_form.specs.Said.{FeedState, LineStep, after_line, after_step, ends, line_fault, line_step, stops}
 use Rattle.tilt_live_run.proofs.Reporting.{reports-none, reports-short, reports-stopped, reports-then}
 use Rattle.tilt_live_run.specs.Taken.{HasTakenLine, HasTakenPiece}
 use Rattle.tilt_live_run.specs.declared.run_options.RunOptions.{RunOptions}
@@ -29,15 +29,21 @@ on-err result A why is = rw is tt
 module _ {K : Type 0} (tells : Type 0) (written : K → List ℕ) (faults : K → ℕ) (core : CoreParts) (options : RunOptions) where
   -- a line that says the same
   pub line-same : (err err_then : K) (Is : ℕ → FeedState → Type 0) (Holds : FeedState → Type 0) (number : ℕ) (state : FeedState) (x y : List ℕ) (result : Result (Unit {0}) Stop)
-      → content core.inputs number x ≡ content core.inputs number y
+      → line_step options.form core.inputs number x state.kept ≡ line_step options.form core.inputs number y state.kept
+      → line_fault options.form core.inputs state.kept number x ≡ line_fault options.form core.inputs state.kept number y
       → HasTakenLine tells written faults err err_then Is Holds core options number state x result
       → HasTakenLine tells written faults err err_then Is Holds core options number state y result
-  line-same err err_then Is Holds number state x y result e taken = record {
-    reports = rw e at taken.reports;
-    goes_on = rw e at taken.goes_on;
-    held = taken.held;
-    stop = rw e at taken.stop;
-  }
+  line-same err err_then Is Holds number state x y result step fault taken =
+      let after : after_line options.form core.inputs number x state ≡ after_line options.form core.inputs number y state =
+      ap (λ (s : LineStep). after_step s state.feed) step in
+      let stopped : stops options.strict options.form core.inputs state number x ≡ stops options.strict options.form core.inputs state number y =
+      ap (ends options.strict state.kept) fault in
+      record {
+        reports = rw fault at taken.reports;
+        goes_on = rw after at taken.goes_on;
+        held = taken.held;
+        stop = rw stopped at taken.stop;
+      }
 
   -- what the run is then, said otherwise
   pub line-into : (err err_then : K) (Is Then : ℕ → FeedState → Type 0) (Holds : FeedState → Type 0) (number : ℕ) (state : FeedState) (x : List ℕ) (result same : Result (Unit {0}) Stop)
@@ -46,7 +52,7 @@ module _ {K : Type 0} (tells : Type 0) (written : K → List ℕ) (faults : K �
       → HasTakenLine tells written faults err err_then Then Holds core options number state x same
   line-into err err_then Is Then Holds number state x (Ok u) same is into taken = rw is record {
     reports = taken.reports;
-    goes_on = (rw is at into) (next_count number) (after_line options.watermarks core.inputs number x state) taken.goes_on;
+    goes_on = (rw is at into) (next_count number) (after_line options.form core.inputs number x state) taken.goes_on;
     held = tt;
     stop = taken.stop;
   }
@@ -73,7 +79,7 @@ module _ {K : Type 0} (tells : Type 0) (written : K → List ℕ) (faults : K �
     pub piece-more : (err err_mid err_then : K) (Mid : ℕ → FeedState → Type 0) (Stays Holds : FeedState → Type 0) (Is : ℕ → FeedState → List ℕ → Type 0) (result : Result (Unit {0}) Stop)
         → HasTakenLine tells written faults err err_mid Mid Stays core options number state (front ++ line) (Ok tt)
         → HasTakenPiece tells written faults err_mid err_then Is Holds core options (next_count number)
-        (after_line options.watermarks core.inputs number (front ++ line) state) [] rest result
+        (after_line options.form core.inputs number (front ++ line) state) [] rest result
         → HasTakenPiece tells written faults err err_then Is Holds core options number state front piece result
     piece-more err err_mid err_then Mid Stays Holds Is result first later = record {
       reports = rw (lines-until front piece line rest found, first.stop) (reports-then tells written faults err err_mid err_then _ _ tt result first.reports later.reports);
@@ -87,9 +93,9 @@ module _ {K : Type 0} (tells : Type 0) (written : K → List ℕ) (faults : K �
         → result ≡ Err why → HasTakenLine tells written faults err err_then Mid Holds core options number state (front ++ line) (Err why)
         → HasTakenPiece tells written faults err err_then Is Holds core options number state front piece result
     piece-stopped err err_then Mid Holds Is why result is first =
-        elim (cases_Bool (stops options.strict options.watermarks core.inputs state number (front ++ line))) [
+        elim (cases_Bool (stops options.strict options.form core.inputs state number (front ++ line))) [
           | inl stopped ↦ record {
-            reports = rw (is, lines-until front piece line rest found, stopped, append-nil (report_of number (line_fault options.watermarks core.inputs state number (front ++ line)))) first.reports;
+            reports = rw (is, lines-until front piece line rest found, stopped, append-nil (report_of number (line_fault options.form core.inputs state.kept number (front ++ line)))) first.reports;
             goes_on = rw is tt;
             held = rw (is, lines-until front piece line rest found, stopped) first.held;
             stop = rw (is, lines-until front piece line rest found, stopped) (λ e. refl);

@@ -5,9 +5,11 @@ use Rattle.std.proofs.lemmas.List.{length-take, nil_from_length}
 use Rattle.tilt_compiler.specs.Accepted.{AcceptedParts}
 use Rattle.tilt_core.specs.Core.{CoreParts}
 use Rattle.tilt_feed_text.proofs.Cutting.{take-empty}
-use Rattle.tilt_feed_text.proofs.Saying.{after_lines-append, number-append}
+use Rattle.tilt_feed_form.proofs.Saying.{after_lines-append}
+use Rattle.tilt_feed_text.proofs.Saying.{number-append}
 use Rattle.tilt_feed_text.proofs.Splitting.{lines-append, unfinished-append}
-use Rattle.tilt_feed_text.specs.Said.{after_lines, first_state, number_after}
+use Rattle.tilt_feed_form.specs.Said.{after_lines, first_state}
+use Rattle.tilt_feed_text.specs.Said.{number_after}
 use Rattle.tilt_feed_text.specs.Split.{unfinished, unfinished_after, whole_lines}
 use Rattle.tilt_feed_text.specs.declared.pending.TheConstants.{LINE}
 use Rattle.tilt_live_run.specs.Runs.{IsRunAfter, new_lines, number_of, state_after}
@@ -21,15 +23,15 @@ number-more bytes piece = rw (lines-append [] bytes piece) (number-append 0 (who
 
 pub state-more : (options : RunOptions) (core : CoreParts) (bytes piece : List ℕ)
     → state_after options core (bytes ++ piece)
-    ≡ after_lines options.watermarks core.inputs (number_of bytes) (state_after options core bytes) (new_lines bytes piece)
+    ≡ after_lines options.form core.inputs (number_of bytes) (state_after options core bytes) (new_lines bytes piece)
 state-more options core bytes piece =
     rw (lines-append [] bytes piece)
-    (after_lines-append options.watermarks core.inputs 0 (first_state (length core.inputs)) (whole_lines bytes) (new_lines bytes piece))
+    (after_lines-append options.form core.inputs 0 (first_state options.form (length core.inputs)) (whole_lines bytes) (new_lines bytes piece))
 
 -- the run of a query after a piece
 pub run-more : (run : LiveRun) (accepted : AcceptedParts) (options : RunOptions) (bytes piece : List ℕ) (given : ℕ)
     → IsRunAfter run accepted options (number_after (number_of bytes) (new_lines bytes piece))
-    (after_lines options.watermarks accepted.core.inputs (number_of bytes) (state_after options accepted.core bytes) (new_lines bytes piece)) (unfinished_after (unfinished bytes) piece) given
+    (after_lines options.form accepted.core.inputs (number_of bytes) (state_after options accepted.core bytes) (new_lines bytes piece)) (unfinished_after (unfinished bytes) piece) given
     → IsRunAfter run accepted options (number_of (bytes ++ piece)) (state_after options accepted.core (bytes ++ piece)) (unfinished (bytes ++ piece)) given
 run-more run accepted options bytes piece given is =
     rw (number-more bytes piece, state-more options accepted.core bytes piece, unfinished-append [] bytes piece) is

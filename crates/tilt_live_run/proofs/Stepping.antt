@@ -9,9 +9,11 @@ use Rattle.tilt_compiler.specs.Accepted.{AcceptedParts}
 use Rattle.tilt_core.specs.Core.{CoreParts}
 use Rattle.tilt_feed.specs.Feed.{Feed}
 use Rattle.tilt_feed.specs.Printed.{begun, printed}
-use Rattle.tilt_feed_text.proofs.Saying.{reports-append, reports-stop, stop-append, stop-stop, taken-all, taken-append, taken-stop}
+use Rattle.tilt_feed_form.proofs.Saying.{reports-append, reports-stop, stop-append, stop-stop, taken-all, taken-append, taken-stop}
 use Rattle.tilt_feed_text.proofs.Splitting.{lines-append, lines-none, lines-until, unfinished-append, unfinished-until}
-use Rattle.tilt_feed_text.specs.Said.{FeedState, after_line, after_lines, number_after, stops, taken_from}
+use Rattle.tilt_feed_form.specs.Machine.{form_of, kept_of}
+use Rattle.tilt_feed_form.specs.Said.{FeedState, after_line, after_lines, stops, taken_from}
+use Rattle.tilt_feed_text.specs.Said.{number_after}
 use Rattle.tilt_feed_text.specs.Split.{lines_after, unfinished, unfinished_after}
 use Rattle.tilt_feed_text.specs.declared.pending.TheConstants.{LINE}
 use Rattle.tilt_input_state.specs.Resume.{first_read}
@@ -38,7 +40,6 @@ use Rattle.tilt_text.proofs.Step.{bind_some}
 use Rattle.tilt_text.proofs.Words.{front-until, until-front}
 use Rattle.tilt_text.specs.Cut.{onto, until_at}
 use Rattle.tilt_text.specs.Step.{◌>>=◌}
-use Rattle.tilt_watermarks.specs.Machine.{kept_by, options_of}
 
 -- the bytes before a mark are without it
 lacks_head : (mark b : ℕ) (bs front rest : List ℕ) (here : Bool) → (b == mark) ≡ here → ((f r : List ℕ) → until_at mark bs ≡ Some (f, r) → Lacks mark f)
@@ -77,15 +78,15 @@ module _ (core : CoreParts) (options : RunOptions) (bytes : List ℕ) where
   added-more p q none =
       let n = number_of bytes in
       let s = state_after options core bytes in
-      let whole = taken-append options.strict options.watermarks core.inputs n s (new_lines bytes p) [] none in
-      let all : taken_from options.strict options.watermarks core.inputs n s (new_lines bytes p) ≡ new_lines bytes p = rw (append-nil (new_lines bytes p)) at whole in
+      let whole = taken-append options.strict options.form core.inputs n s (new_lines bytes p) [] none in
+      let all : taken_from options.strict options.form core.inputs n s (new_lines bytes p) ≡ new_lines bytes p = rw (append-nil (new_lines bytes p)) at whole in
       rw (
         lines_of_both p q,
-        taken-append options.strict options.watermarks core.inputs n s (new_lines bytes p) (new_lines (bytes ++ p) q) none,
+        taken-append options.strict options.form core.inputs n s (new_lines bytes p) (new_lines (bytes ++ p) q) none,
         all,
         news-append options core n s (new_lines bytes p)
-            (taken_from options.strict options.watermarks core.inputs (number_after n (new_lines bytes p))
-            (after_lines options.watermarks core.inputs n s (new_lines bytes p)) (new_lines (bytes ++ p) q)),
+            (taken_from options.strict options.form core.inputs (number_after n (new_lines bytes p))
+            (after_lines options.form core.inputs n s (new_lines bytes p)) (new_lines (bytes ++ p) q)),
         number-more bytes p,
         state-more options core bytes p,
       ) refl
@@ -95,7 +96,7 @@ module _ (core : CoreParts) (options : RunOptions) (bytes : List ℕ) where
   reported-more p q none =
       rw (
         lines_of_both p q,
-        reports-append options.strict options.watermarks core.inputs (number_of bytes) (state_after options core bytes) (new_lines bytes p) (new_lines (bytes ++ p) q) none,
+        reports-append options.strict options.form core.inputs (number_of bytes) (state_after options core bytes) (new_lines bytes p) (new_lines (bytes ++ p) q) none,
         number-more bytes p,
         state-more options core bytes p,
       ) refl
@@ -104,19 +105,19 @@ module _ (core : CoreParts) (options : RunOptions) (bytes : List ℕ) where
   stopped-more p q none =
       rw (
         lines_of_both p q,
-        stop-append options.strict options.watermarks core.inputs (number_of bytes) (state_after options core bytes) (new_lines bytes p) (new_lines (bytes ++ p) q) none,
+        stop-append options.strict options.form core.inputs (number_of bytes) (state_after options core bytes) (new_lines bytes p) (new_lines (bytes ++ p) q) none,
         number-more bytes p,
         state-more options core bytes p,
       ) refl
 
   -- what is news of one line, and of no line
   one_added : (n : ℕ) (s : FeedState) (x : List ℕ)
-      → news options.with_begun core s.feed (after_lines options.watermarks core.inputs n s (taken_from options.strict options.watermarks core.inputs n s (x ∷ []))).feed
-      ≡ news_from options core n s (taken_from options.strict options.watermarks core.inputs n s (x ∷ []))
+      → news options.with_begun core s.feed (after_lines options.form core.inputs n s (taken_from options.strict options.form core.inputs n s (x ∷ []))).feed
+      ≡ news_from options core n s (taken_from options.strict options.form core.inputs n s (x ∷ []))
   one_added n s x =
-      elim (cases_Bool (stops options.strict options.watermarks core.inputs s n x)) [
+      elim (cases_Bool (stops options.strict options.form core.inputs s n x)) [
         | inl stopped ↦ rw stopped (news-same options.with_begun core s.feed)
-        | inr going ↦ rw (going, append-nil (news options.with_begun core s.feed (after_line options.watermarks core.inputs n x s).feed)) refl
+        | inr going ↦ rw (going, append-nil (news options.with_begun core s.feed (after_line options.form core.inputs n x s).feed)) refl
       ]
 
   pub line-added : (rest line after : List ℕ) → until_at 10 rest ≡ Some (line, after)
@@ -199,29 +200,28 @@ module _ {K : Type 0} (tells : Type 0) (written : K → List ℕ) (faults : K �
   pub taken-live : (outcome : Result (Unit {0}) Stop) → MatchResult outcome (λ _. ⊤) (λ why. why ≡ BadLine) → WasTaken outcome
       → IsLiveOf run.run.live accepted (state_taken options accepted.core bytes piece).feed given
   taken-live (Ok u) bad taken =
-      rw (taken-all options.strict options.watermarks accepted.core.inputs (number_of bytes) (state_after options accepted.core bytes) (new_lines bytes piece) taken.stop) taken.goes_on.line_run.live
+      rw (taken-all options.strict options.form accepted.core.inputs (number_of bytes) (state_after options accepted.core bytes) (new_lines bytes piece) taken.stop) taken.goes_on.line_run.live
   taken-live (Err e) bad taken = taken.held bad
 
   -- the run that has shown it goes on after it
   pub taken-shown : (later : LiveRun) (outcome : Result (Unit {0}) Stop) → WasTaken outcome
       → (let after = state_taken options accepted.core bytes piece in IsLiveOf later.run.live accepted after.feed (length (printed accepted.core after.feed)))
       → (options.with_begun ≡ true → later.run.shown ≡ begun_start (begun accepted.core (state_taken options accepted.core bytes piece).feed))
-      → (later.run.number ≡ run.run.number) × (later.run.with_begun ≡ run.run.with_begun) × (later.run.strict ≡ run.run.strict)
-      → (kept_by later.run.watermarks ≡ kept_by run.run.watermarks) × (options_of later.run.watermarks ≡ options_of run.run.watermarks)
+      → (later.run.number ≡ run.run.number) × (later.run.with_begun ≡ run.run.with_begun) × (later.run.strict ≡ run.run.strict) × (later.run.text ≡ run.run.text)
       → ((feed : Feed) → IsLiveOf run.run.live accepted feed given → KeepsRows run.run.rows (first_read accepted.core (tick_of_live run.run.live)) feed
       → KeepsRows later.run.rows (first_read accepted.core (tick_of_live later.run.live)) feed)
       → later.pending.items ≡ run.pending.items
       → OnOk outcome (IsRunOf later accepted options (bytes ++ piece))
-  taken-shown later (Ok u) taken live begun_is same marks rows kept =
+  taken-shown later (Ok u) taken live begun_is same rows kept =
       let core = accepted.core in
       let all : state_taken options core bytes piece ≡ state_after options core (bytes ++ piece) =
-      rw (taken-all options.strict options.watermarks core.inputs (number_of bytes) (state_after options core bytes) (new_lines bytes piece) taken.stop) (sym (state-more options core bytes piece)) in
+      rw (taken-all options.strict options.form core.inputs (number_of bytes) (state_after options core bytes) (new_lines bytes piece) taken.stop) (sym (state-more options core bytes piece)) in
       record {
         after = record {
           line_run = record {
             live = subst (λ (s : FeedState). IsLiveOf later.run.live accepted s.feed (length (printed core s.feed))) all live;
-            kept_is = marks.0 ∙ taken.goes_on.line_run.kept_is ∙ ap (λ (s : FeedState). s.kept) (sym (state-more options core bytes piece));
-            watermarks_are = marks.1 ∙ taken.goes_on.line_run.watermarks_are;
+            kept_is = ap kept_of same.3 ∙ taken.goes_on.line_run.kept_is ∙ ap (λ (s : FeedState). s.kept) (sym (state-more options core bytes piece));
+            form_is = ap form_of same.3 ∙ taken.goes_on.line_run.form_is;
             number_is = same.0 ∙ taken.goes_on.line_run.number_is ∙ sym (number-more bytes piece);
             with_begun_is = same.1 ∙ taken.goes_on.line_run.with_begun_is;
             strict_is = same.2 ∙ taken.goes_on.line_run.strict_is;
@@ -232,7 +232,7 @@ module _ {K : Type 0} (tells : Type 0) (written : K → List ℕ) (faults : K �
         };
         begun = λ yes. subst (λ (s : FeedState). later.run.shown ≡ begun_start (begun core s.feed)) all (begun_is yes);
       }
-  taken-shown later (Err e) taken live begun_is same marks rows kept = tt
+  taken-shown later (Err e) taken live begun_is same rows kept = tt
 
 -- a run that is lost wrote nothing
 pub lost-written : {K : Type 0} (port_tells : Type 0) (port : Transcript) (tells : Type 0) (written : K → List ℕ) (faults : K → ℕ) (err err_then : K) (Is : List ℕ → Type 0)
@@ -265,10 +265,10 @@ module _ {K : Type 0} (port_tells : Type 0) (tells : Type 0) (written : K → Li
             let both = lines-append (unfinished bytes) p q in
             let more = lines_after (unfinished_after (unfinished bytes) p) q in
             record {
-              adds = rw (is, both, taken-stop options.strict options.watermarks core.inputs n s (new_lines bytes p) more stopped) taken.adds;
-              reports = rw (is, both, reports-stop options.strict options.watermarks core.inputs n s (new_lines bytes p) more stopped) taken.reports;
+              adds = rw (is, both, taken-stop options.strict options.form core.inputs n s (new_lines bytes p) more stopped) taken.adds;
+              reports = rw (is, both, reports-stop options.strict options.form core.inputs n s (new_lines bytes p) more stopped) taken.reports;
               goes_on = rw is tt;
-              stops = rw (is, both, stop-stop options.strict options.watermarks core.inputs n s (new_lines bytes p) more stopped) (λ e. refl);
+              stops = rw (is, both, stop-stop options.strict options.form core.inputs n s (new_lines bytes p) more stopped) (λ e. refl);
             }
         | inr going ↦ record {
           adds = rw (is, added-more core options bytes p q going)

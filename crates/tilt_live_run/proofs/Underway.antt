@@ -1,7 +1,7 @@
 -- A run that is on its way through a piece.
 use Rattle.std.proofs.Common.{◌≡◌, ◌<◌, ℕ, List, [], ◌∷◌, ◌++◌, None, Some, Result, Ok, Err, ap, length, length-append, arith}
 use Rattle.tilt_compiler.specs.Accepted.{AcceptedParts}
-use Rattle.tilt_feed_text.specs.Said.{FeedState, after_line}
+use Rattle.tilt_feed_form.specs.Said.{FeedState, after_line}
 use Rattle.tilt_live.specs.Lives.{IsLiveOf}
 use Rattle.tilt_live_run.proofs.Pieces.{piece-end, piece-more, piece-refused, piece-stopped}
 use Rattle.tilt_live_run.specs.Runs.{IsRunAfter}
@@ -56,7 +56,7 @@ module _ {K : Type 0} (tells : Type 0) (written : K → List ℕ) (faults : K �
           let first = taken underway.number_now underway.state_now underway.front_now underway.is in
           record {
             number_now = next_count underway.number_now;
-            state_now = after_line options.watermarks accepted.core.inputs underway.number_now (underway.front_now ++ line) underway.state_now;
+            state_now = after_line options.form accepted.core.inputs underway.number_now (underway.front_now ++ line) underway.state_now;
             front_now = [];
             is = first.goes_on;
             onward = λ later sink_last result rest_taken.

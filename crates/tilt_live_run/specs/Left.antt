@@ -1,13 +1,18 @@
--- What a run that took bytes of its feed hands on to the next run (our own rule). Times are in ticks.
-use Rattle.std.specs.Prelude.{◌≡◌, ℕ, true, List, [], ◌∷◌, length, if◌then◌else◌}
+-- What a run that took bytes of a feed of rows hands on to the next run (our own rule). Times are in ticks.
+use Rattle.std.specs.Prelude.{◌≡◌, ℕ, Bool, true, ◌&&◌, is_some, List, [], ◌∷◌, length, None, if◌then◌else◌}
 use Rattle.tilt_core.specs.Core.{CoreParts}
 use Rattle.tilt_feed.specs.Feed.{Feed, InputFeed}
 use Rattle.tilt_feed.specs.Printed.{begun}
-use Rattle.tilt_feed_text.specs.Said.{FeedState}
+use Rattle.tilt_feed_form.specs.Machine.{form_of}
+use Rattle.tilt_feed_form.specs.Said.{FeedState, TextKept, options_if_rows}
+use Rattle.tilt_feed_form.specs.Said.TextKept.{OfReadings, OfRows}
+use Rattle.tilt_feed_form.specs.declared.feed_form.FeedForm.{FeedForm}
+use Rattle.tilt_feed_form.specs.declared.feed_form.FeedForm.TheVariants.{Readings, Rows}
 use Rattle.tilt_input_state.specs.Resume.{first_read, resume_tick}
 use Rattle.tilt_live_run.specs.KeptRows.{has_rows}
 use Rattle.tilt_live_run.specs.Output.{begun_start}
 use Rattle.tilt_live_run.specs.Runs.{number_of, state_after}
+use Rattle.tilt_live_run.specs.declared.line_run.LineRun.{LineRun}
 use Rattle.tilt_live_run.specs.declared.live_run.LiveRun.{LiveRun}
 use Rattle.tilt_live_run.specs.declared.run_options.RunOptions.{RunOptions}
 use Rattle.tilt_live_state.specs.State.{InputParts, LiveStateParts}
@@ -17,6 +22,22 @@ use Rattle.tilt_stream.specs.Pieces.{kept}
 use Rattle.tilt_stream.specs.Snap.{Snapshot}
 use Rattle.tilt_syntax.specs.Tree.{StatementTree}
 use Rattle.tilt_watermarks.specs.Held.{Waiting}
+use Rattle.tilt_watermarks.specs.Steps.{Kept, nothing_kept}
+use Rattle.tilt_watermarks.specs.declared.options.Options.{Options}
+
+-- whether the lines of a feed are rows
+abbrev pub is_rows : FeedForm → Bool
+is_rows form = is_some (options_if_rows form)
+
+-- what is asked of the watermarks of a feed of rows; a feed of readings has none
+abbrev pub row_options : FeedForm → Options
+row_options (Rows options) = options
+row_options (Readings setup) = record { idle = None; ahead = None; lateness = None }
+
+-- what the watermarks of a feed of rows keep
+abbrev pub row_kept : TextKept → Kept
+row_kept (OfRows kept) = kept
+row_kept (OfReadings kept) = nothing_kept 0
 
 -- of the closed rows of an input those that the rest of the output reads. Of a finished feed no row is needed
 abbrev pub rows_left : CoreParts → Feed → List Snapshot → List Snapshot
@@ -34,20 +55,20 @@ each_left core feed (input ∷ inputs) (first ∷ waiting) = left_of core feed i
 
 -- the same of a feed and its watermarks
 abbrev pub inputs_left : CoreParts → FeedState → List InputParts
-inputs_left core state = each_left core state.feed state.feed.inputs state.kept.inputs
+inputs_left core state = each_left core state.feed state.feed.inputs (row_kept state.kept).inputs
 
 -- how far a run is after this many bytes and lines of its feed, when this many bytes of output were written
 abbrev pub progress_of : RunOptions → CoreParts → FeedState → ℕ → ℕ → ℕ → Progress
 progress_of options core state bytes lines written = record {
-  options = options.watermarks;
+  options = row_options options.form;
   bytes = bytes;
   lines = lines;
   written = written;
   from = resume_tick core state.feed;
   shown = begun_start (begun core state.feed);
   finished = state.feed.finished;
-  greatest = state.kept.greatest;
-  latest = state.kept.latest;
+  greatest = (row_kept state.kept).greatest;
+  latest = (row_kept state.kept).latest;
 }
 
 -- how far it is after these bytes
@@ -63,6 +84,9 @@ state_left options core query bytes written = record {
   inputs = inputs_left core (state_after options core bytes);
 }
 
--- a run keeps what its state needs
+-- whether a run keeps what its state needs; only a run of a feed of rows does
+abbrev pub keeps_state : LineRun → Bool
+keeps_state run = has_rows run.rows && is_rows (form_of run.text)
+
 abbrev pub KeepsState : LiveRun → Type 0
-KeepsState run = has_rows run.run.rows ≡ true
+KeepsState run = keeps_state run.run ≡ true

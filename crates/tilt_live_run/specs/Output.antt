@@ -5,7 +5,7 @@ use Rattle.std.specs.Ordering.{int_eq}
 use Rattle.tilt_core.specs.Core.{CoreParts}
 use Rattle.tilt_feed.specs.Feed.{Feed, empty_feed}
 use Rattle.tilt_feed.specs.Printed.{Begun, begun, printed}
-use Rattle.tilt_feed_text.specs.Said.{FeedState, after_line, first_state, taken_from}
+use Rattle.tilt_feed_form.specs.Said.{FeedState, after_line, first_state, taken_from}
 use Rattle.tilt_live_run.specs.declared.run_options.RunOptions.{RunOptions}
 use Rattle.tilt_outside.specs.Counts.{next_count}
 use Rattle.tilt_stream.specs.Text.{cell_text, lines_of}
@@ -46,12 +46,12 @@ first_news with_begun core =
 abbrev pub news_from : RunOptions → CoreParts → ℕ → FeedState → List (List ℕ) → List ℕ
 news_from options core number state [] = []
 news_from options core number state (bytes ∷ lines) =
-    let after = after_line options.watermarks core.inputs number bytes state in
+    let after = after_line options.form core.inputs number bytes state in
     news options.with_begun core state.feed after.feed ++ news_from options core (next_count number) after lines
 
--- what is written for the lines of a feed; up to the first bad line if bad lines stop the run
+-- what is written for the lines of a feed, up to the first one that stops the run
 abbrev pub output : RunOptions → CoreParts → List (List ℕ) → List ℕ
 output options core lines =
-    let state = first_state (length core.inputs) in
+    let state = first_state options.form (length core.inputs) in
     first_news options.with_begun core
-    ++ news_from options core 0 state (taken_from options.strict options.watermarks core.inputs 0 state lines)
+    ++ news_from options core 0 state (taken_from options.strict options.form core.inputs 0 state lines)

@@ -5,10 +5,11 @@ use Rattle.tilt_core.specs.Core.{CoreParts}
 use Rattle.tilt_feed.specs.Feed.{Feed}
 use Rattle.tilt_feed.specs.Laws.{fed}
 use Rattle.tilt_feed.specs.Printed.{begun, printed}
-use Rattle.tilt_feed_text.specs.Report.{report, reports_from}
-use Rattle.tilt_feed_text.specs.Said.{FeedState, after_lines, events_of, first_state, number_after, stop_among, taken_from}
+use Rattle.tilt_feed_form.specs.Machine.{form_of, kept_of}
+use Rattle.tilt_feed_form.specs.Report.{report, reports_from}
+use Rattle.tilt_feed_form.specs.Said.{FeedState, after_lines, events_of, first_state, no_end, stop_among, taken_from}
+use Rattle.tilt_feed_text.specs.Said.{number_after}
 use Rattle.tilt_feed_text.specs.Split.{lines_after, unfinished, whole_lines}
-use Rattle.tilt_feed_text.specs.declared.bad_line.BadLine.TheVariants.{NoEnd}
 use Rattle.tilt_feed_text.specs.declared.pending.TheConstants.{LINE}
 use Rattle.tilt_input_state.specs.Resume.{first_read}
 use Rattle.tilt_live.specs.Lives.{IsLive, IsLiveOf, tick_of_live}
@@ -19,14 +20,13 @@ use Rattle.tilt_live_run.specs.declared.line_run.LineRun.{LineRun}
 use Rattle.tilt_live_run.specs.declared.live_run.LiveRun.{LiveRun}
 use Rattle.tilt_live_run.specs.declared.run_options.RunOptions.{RunOptions}
 use Rattle.tilt_outside.specs.Counts.{next_count}
-use Rattle.tilt_watermarks.specs.Machine.{kept_by, options_of}
 
 -- the run of a query with these options after so many lines, after which its feed is there; so many snapshots were written. If it keeps
 -- rows, the rest of its output reads no others
 pub record IsLineRunOf (run : LineRun) (accepted : AcceptedParts) (options : RunOptions) (number : ℕ) (state : FeedState) (given : ℕ) : Type 0 where
   pub live : IsLiveOf run.live accepted state.feed given
-  pub kept_is : kept_by run.watermarks ≡ state.kept
-  pub watermarks_are : options_of run.watermarks ≡ options.watermarks
+  pub kept_is : kept_of run.text ≡ state.kept
+  pub form_is : form_of run.text ≡ options.form
   pub number_is : run.number ≡ number
   pub with_begun_is : run.with_begun ≡ options.with_begun
   pub strict_is : run.strict ≡ options.strict
@@ -53,13 +53,13 @@ number_of bytes = number_after 0 (whole_lines bytes)
 
 -- where the feed of a query is after bytes
 abbrev pub state_after : RunOptions → CoreParts → List ℕ → FeedState
-state_after options core bytes = after_lines options.watermarks core.inputs 0 (first_state (length core.inputs)) (whole_lines bytes)
+state_after options core bytes = after_lines options.form core.inputs 0 (first_state options.form (length core.inputs)) (whole_lines bytes)
 
--- the feed of a query after the events of lines; up to the first bad line if bad lines stop the run
+-- the feed of a query after the events of lines, up to the first one that stops the run
 abbrev pub feed_of_lines : RunOptions → CoreParts → List (List ℕ) → Feed
 feed_of_lines options core lines =
-    fed core (events_of options.watermarks core.inputs
-    (taken_from options.strict options.watermarks core.inputs 0 (first_state (length core.inputs)) lines))
+    fed core (events_of options.form core.inputs
+    (taken_from options.strict options.form core.inputs 0 (first_state options.form (length core.inputs)) lines))
 
 -- the run of a query after bytes of its feed
 abbrev pub IsRunOf : LiveRun → AcceptedParts → RunOptions → List ℕ → Type 0
@@ -70,10 +70,10 @@ IsRunOf run accepted options bytes =
 abbrev pub new_lines : List ℕ → List ℕ → List (List ℕ)
 new_lines bytes piece = lines_after (unfinished bytes) piece
 
--- of them, those that are taken: all, or those before the first bad one if bad lines stop the run
+-- of them, those that are taken: all, or those before the first one that stops the run
 abbrev pub taken_of : RunOptions → CoreParts → List ℕ → List ℕ → List (List ℕ)
 taken_of options core bytes piece =
-    taken_from options.strict options.watermarks core.inputs (number_of bytes) (state_after options core bytes) (new_lines bytes piece)
+    taken_from options.strict options.form core.inputs (number_of bytes) (state_after options core bytes) (new_lines bytes piece)
 
 -- what is written for them
 abbrev pub added : RunOptions → CoreParts → List ℕ → List ℕ → List ℕ
@@ -82,25 +82,25 @@ added options core bytes piece = news_from options core (number_of bytes) (state
 -- where the feed is after them
 abbrev pub state_taken : RunOptions → CoreParts → List ℕ → List ℕ → FeedState
 state_taken options core bytes piece =
-    after_lines options.watermarks core.inputs (number_of bytes) (state_after options core bytes) (taken_of options core bytes piece)
+    after_lines options.form core.inputs (number_of bytes) (state_after options core bytes) (taken_of options core bytes piece)
 
 -- what is reported of the lines that end in it
 abbrev pub reported : RunOptions → CoreParts → List ℕ → List ℕ → List ℕ
 reported options core bytes piece =
-    reports_from options.strict options.watermarks core.inputs (number_of bytes) (state_after options core bytes) (new_lines bytes piece)
+    reports_from options.strict options.form core.inputs (number_of bytes) (state_after options core bytes) (new_lines bytes piece)
 
 -- whether one of them stops the run
 abbrev pub is_stopped : RunOptions → CoreParts → List ℕ → List ℕ → Bool
 is_stopped options core bytes piece =
-    stop_among options.strict options.watermarks core.inputs (number_of bytes) (state_after options core bytes) (new_lines bytes piece)
+    stop_among options.strict options.form core.inputs (number_of bytes) (state_after options core bytes) (new_lines bytes piece)
 
 -- whether bytes end in the middle of a line
 abbrev pub is_unfinished : List ℕ → Bool
 is_unfinished bytes = not (length (unfinished bytes) == 0)
 
 -- the report of the line in the middle of which the feed ended, if it did
-abbrev pub end_report : List ℕ → List ℕ
-end_report bytes = if is_unfinished bytes then report (next_count (number_of bytes)) NoEnd else []
+abbrev pub end_report : RunOptions → List ℕ → List ℕ
+end_report options bytes = if is_unfinished bytes then report (next_count (number_of bytes)) (no_end options.form) else []
 
 -- it has counted the bytes of a feed
 abbrev pub IsPlaced : LiveRun → List ℕ → Type 0

@@ -4,13 +4,15 @@ ghost use Rattle.std.specs.Prelude.{true, false, length, drop, if◌then◌else�
 ghost use Rattle.tilt_compiler.specs.Accepted.{AcceptedParts};
 ghost use Rattle.tilt_feed.specs.Feed.{Feed, empty_feed};
 ghost use Rattle.tilt_feed.specs.Printed.{begun, printed};
-ghost use Rattle.tilt_feed_text.specs.Report.{report};
-ghost use Rattle.tilt_feed_text.specs.Said.{FeedState, after_line, first_state, line_fault};
+ghost use Rattle.tilt_feed_form.specs.Report.{report};
+ghost use Rattle.tilt_feed_form.specs.Machine.{form_of, kept_of};
+ghost use Rattle.tilt_feed_form.specs.Said.{FeedState, after_line, ends, first_state, line_fault, no_end};
+ghost use Rattle.tilt_feed_form.specs.Said.TextKept.{OfRows};
 ghost use Rattle.tilt_input_state.specs.Resume.{first_read};
 ghost use Rattle.tilt_live.specs.Lives.{IsLive, IsLiveOf, tick_of_live};
 ghost use Rattle.tilt_live_run.specs.Adds.{Adds};
 ghost use Rattle.tilt_live_run.specs.KeptRows.{KeepsRows, has_rows, needs_rows};
-ghost use Rattle.tilt_live_run.specs.Left.{each_left, inputs_left, progress_of};
+ghost use Rattle.tilt_live_run.specs.Left.{each_left, inputs_left, is_rows, keeps_state, progress_of, row_kept, row_options};
 ghost use Rattle.tilt_live_run.specs.Output.{begun_news, begun_start, first_news};
 ghost use Rattle.tilt_live_run.specs.Reported.{Reported};
 ghost use Rattle.tilt_live_run.specs.Runs.{IsLineRunOf};
@@ -19,14 +21,13 @@ ghost use Rattle.tilt_live_run.specs.declared.run_options.RunOptions.{RunOptions
 ghost use Rattle.tilt_outside.specs.Counts.{next_count};
 ghost use Rattle.tilt_stream.specs.Text.{lines_of};
 ghost use Rattle.tilt_live.specs.Resuming.{IsLeft};
-ghost use Rattle.tilt_live_state.specs.State.{feed_of, kept_of};
+ghost use Rattle.tilt_live_state.specs.State as parts;
 ghost use Rattle.tilt_live_state.specs.Valid.{IsStateOf};
 ghost use Rattle.tilt_engine.specs.Engines.{begun_pair};
 ghost use Rattle.tilt_feed.specs.Printed.{Begun};
 ghost use Rattle.tilt_watermarks.specs.Laws.{IsKeptOf};
-ghost use Rattle.tilt_watermarks.specs.Machine.{kept_by, options_of};
 
-use crate::events::take_said;
+use crate::events::take_events;
 use crate::inputs::{join_inputs, kept_state, known_inputs};
 use crate::keep::Keep;
 use crate::run_options::RunOptions;
@@ -37,14 +38,13 @@ use std::alloc::{AllocError as OutOfMemory, Global};
 use tilt_base::Cell;
 use tilt_compiler::Accepted;
 use tilt_feed::Event;
-use tilt_feed_line::LineReader;
-use tilt_feed_text::{BadLine, ReadContentFault, put_report, read_content};
+use tilt_feed_form::{BadFeedLine, FeedForm, FeedText, put_report};
 use tilt_live::Live;
 use tilt_live_state::{InputState, LiveState, Progress};
 use tilt_outside::Sink;
 use tilt_port::Port;
 use tilt_syntax::Query;
-use tilt_watermarks::{KeptState, Watermarks};
+use tilt_watermarks::KeptState;
 
 // The live engine of a query, and what was taken and written by it.
 #[derive(Drop)]
@@ -52,8 +52,7 @@ pub(crate) struct LineRun {
     pub(crate) live: Live,
     // The rows that its state needs, if they are kept.
     pub(crate) rows: StateRows,
-    watermarks: Watermarks,
-    reader: LineReader,
+    text: FeedText,
     // Room for the events of a line.
     events: Vec<Event>,
     // How many lines were taken, as far as the count goes.
@@ -72,8 +71,8 @@ impl LineRun {
         options: RunOptions,
         keep: Keep,
     ) -> Result<LineRun, OutOfMemory>
-        ensures is { IfOk result (λ run. IsLineRunOf run accepted options 0 (first_state (length accepted.core.inputs)) 0) }
-        ensures keeps { IfOk result (λ run. has_rows run.rows ≡ needs_rows keep) }
+        ensures is { IfOk result (λ run. IsLineRunOf run accepted options 0 (first_state options.form (length accepted.core.inputs)) 0) }
+        ensures keeps { IfOk result (λ run. keeps_state run ≡ (needs_rows keep && is_rows options.form)) }
         ensures shown { IfOk result (λ run. run.shown ≡ None) }
         ensures live { IfOk result (λ run. IsLive run.live) }
     {
@@ -82,8 +81,7 @@ impl LineRun {
         Ok(LineRun {
             live,
             rows: StateRows::new(alloc, inputs, keep)?,
-            watermarks: Watermarks::new(alloc, options.watermarks, inputs as u32)?,
-            reader: LineReader::new(alloc),
+            text: FeedText::new(alloc, options.form, inputs as u32)?,
             events: Vec::new(alloc),
             number: 0,
             with_begun: options.with_begun,
@@ -101,13 +99,13 @@ impl LineRun {
         keep: Keep,
     ) -> Result<LineRun, OutOfMemory>
         requires valid { IsStateOf accepted.core state.now }
-        requires same { state.now.progress.options ≡ options.watermarks }
+        requires same { options.form ≡ FeedForm.Rows state.now.progress.options }
         ensures is { IfOk result (λ run. (feeds : FeedState)
-            → IsLeft accepted.core feeds.feed state.now.progress.from state.now.progress.finished (map feed_of state.now.inputs)
-            → kept_of state.now ≡ feeds.kept
+            → IsLeft accepted.core feeds.feed state.now.progress.from state.now.progress.finished (map parts.feed_of state.now.inputs)
+            → OfRows (parts.kept_of state.now) ≡ feeds.kept
             → IsLineRunOf run accepted options state.now.progress.lines feeds (length (printed accepted.core feeds.feed))) }
         ensures shown { IfOk result (λ run. run.shown ≡ state.now.progress.shown) }
-        ensures keeps { IfOk result (λ run. has_rows run.rows ≡ needs_rows keep) }
+        ensures keeps { IfOk result (λ run. keeps_state run ≡ needs_rows keep) }
         ensures live { IfOk result (λ run. IsLive run.live) }
     {
         // That it has few inputs is known from here on.
@@ -118,8 +116,7 @@ impl LineRun {
         Ok(LineRun {
             live: Live::resume(alloc, accepted, progress.from, progress.finished, &known)?,
             rows: StateRows::of(alloc, &known, keep)?,
-            watermarks: Watermarks::resume(alloc, options.watermarks, &kept)?,
-            reader: LineReader::new(alloc),
+            text: FeedText::resume_rows(alloc, progress.options, &kept)?,
             events: Vec::new(alloc),
             number: progress.lines,
             with_begun: options.with_begun,
@@ -144,11 +141,9 @@ impl LineRun {
             → KeepsRows self.old.rows (first_read accepted.core (tick_of_live self.old.live)) (empty_feed (length accepted.core.inputs))
             → OnOk result (KeepsRows self.new.rows (first_read accepted.core (tick_of_live self.new.live))
             (empty_feed (length accepted.core.inputs))) }
-        ensures keeps { has_rows self.new.rows ≡ has_rows self.old.rows }
+        ensures keeps { keeps_state self.new ≡ keeps_state self.old }
         ensures rest { (self.new.number ≡ self.old.number) × (self.new.with_begun ≡ self.old.with_begun)
-            × (self.new.strict ≡ self.old.strict) }
-        ensures watermarks { (kept_by self.new.watermarks ≡ kept_by self.old.watermarks)
-            × (options_of self.new.watermarks ≡ options_of self.old.watermarks) }
+            × (self.new.strict ≡ self.old.strict) × (self.new.text ≡ self.old.text) }
         ensures no_bad_line { IfErr result (λ stop. stop ≡ Stop.BadLine → ⊥) }
         ensures live { IsLive self.new.live }
     {
@@ -164,64 +159,79 @@ impl LineRun {
             → HasTakenLine E.tells E.written E.faults err.old err.new (λ n s. IsLineRunOf self.new accepted options n s given)
             (λ s. IsLiveOf self.new.live accepted s.feed given) accepted.core options number state line.now result }
         ensures kept { (self.new.shown ≡ self.old.shown) × (self.new.with_begun ≡ self.old.with_begun) }
-        ensures keeps { has_rows self.new.rows ≡ has_rows self.old.rows }
+        ensures keeps { keeps_state self.new ≡ keeps_state self.old }
         ensures no_write_fault { IfErr result (λ stop. stop ≡ Stop.WriteFault → ⊥) }
         ensures live { IsLive self.old.live → IsLive self.new.live }
         ensures takes { (n : ℕ) → E.takes err.new n }
     {
         if let Some(why) = self.take_content(line)? {
-            self.report_next(why, err)?;
+            self.report_bad(why, err)?;
         }
         self.number = self.number.saturating_add(1);
         Ok(())
     }
 
-    // Reports that the line after those that were taken is bad, which stops the run if bad lines do.
-    pub(crate) fn report_next<E: Sink>(&self, why: BadLine, err: &mut E) -> Result<(), Stop>
+    // Reports that the line after those that were taken is bad, which stops the run if bad lines do, or if the header hasn't come.
+    fn report_bad<E: Sink>(&self, why: BadFeedLine, err: &mut E) -> Result<(), Stop>
         requires { (n : ℕ) → E.takes err.old n }
         ensures reported { Reported E.tells E.written E.faults err.old err.new (report (next_count self.now.number) why) }
+        ensures result { let stopped = ends self.now.strict (kept_of self.now.text) (Some why) in
+            MatchResult result (λ _. stopped ≡ false) (λ stop. (stop ≡ Stop.BadLine) × (stopped ≡ true)) }
+        ensures takes { (n : ℕ) → E.takes err.new n }
+    {
+        self.report_next(why, err);
+        if self.strict || self.text.is_headless() {
+            return Err(Stop::BadLine);
+        }
+        Ok(())
+    }
+
+    // Reports that the feed ended before the LF of the line after those that were taken, which stops the run if bad lines do.
+    pub(crate) fn report_end<E: Sink>(&self, err: &mut E) -> Result<(), Stop>
+        requires { (n : ℕ) → E.takes err.old n }
+        ensures reported { Reported E.tells E.written E.faults err.old err.new
+            (report (next_count self.now.number) (no_end (form_of self.now.text))) }
         ensures result { MatchResult result (λ _. self.now.strict ≡ false) (λ stop. (stop ≡ Stop.BadLine) × (self.now.strict ≡ true)) }
         ensures takes { (n : ℕ) → E.takes err.new n }
     {
-        // A fault of the sink changes nothing.
-        let _ = put_report(err, self.number.saturating_add(1), why);
+        self.report_next(self.text.no_end(), err);
         if self.strict {
-            Err(Stop::BadLine)
-        } else {
-            Ok(())
+            return Err(Stop::BadLine);
         }
+        Ok(())
+    }
+
+    // Reports that the line after those that were taken is bad. A fault of the sink changes nothing.
+    fn report_next<E: Sink>(&self, why: BadFeedLine, err: &mut E)
+        requires { (n : ℕ) → E.takes err.old n }
+        ensures reported { Reported E.tells E.written E.faults err.old err.new (report (next_count self.now.number) why) }
+        ensures takes { (n : ℕ) → E.takes err.new n }
+    {
+        let _ = put_report(err, self.number.saturating_add(1), why);
     }
 
     // Takes what the next line says, and returns why it is bad, if it is.
-    fn take_content(&mut self, line: &[u8]) -> Result<Option<BadLine>, OutOfMemory>
+    fn take_content(&mut self, line: &[u8]) -> Result<Option<BadFeedLine>, OutOfMemory>
         ensures taken { (accepted : AcceptedParts) (state : FeedState) (given : ℕ) → IsLiveOf self.old.live accepted state.feed given
-            → kept_by self.old.watermarks ≡ state.kept → let options = options_of self.old.watermarks in
-            IfOk result (λ why. (why ≡ line_fault options accepted.core.inputs state self.old.number line.now)
-            × (kept_by self.new.watermarks ≡ (after_line options accepted.core.inputs self.old.number line.now state).kept)
-            × IsLiveOf self.new.live accepted (after_line options accepted.core.inputs self.old.number line.now state).feed given) }
+            → kept_of self.old.text ≡ state.kept → let form = form_of self.old.text in
+            IfOk result (λ why. (why ≡ line_fault form accepted.core.inputs state.kept self.old.number line.now)
+            × (kept_of self.new.text ≡ (after_line form accepted.core.inputs self.old.number line.now state).kept)
+            × IsLiveOf self.new.live accepted (after_line form accepted.core.inputs self.old.number line.now state).feed given) }
         ensures rows { (accepted : AcceptedParts) (state : FeedState) (given : ℕ) (first : ℤ)
-            → IsLiveOf self.old.live accepted state.feed given → kept_by self.old.watermarks ≡ state.kept
-            → KeepsRows self.old.rows first state.feed → let options = options_of self.old.watermarks in
-            OnOk result (KeepsRows self.new.rows first (after_line options accepted.core.inputs self.old.number line.now state).feed) }
+            → IsLiveOf self.old.live accepted state.feed given → kept_of self.old.text ≡ state.kept
+            → KeepsRows self.old.rows first state.feed → let form = form_of self.old.text in
+            OnOk result (KeepsRows self.new.rows first (after_line form accepted.core.inputs self.old.number line.now state).feed) }
         ensures tick { tick_of_live self.new.live ≡ tick_of_live self.old.live }
         ensures keeps { has_rows self.new.rows ≡ has_rows self.old.rows }
-        ensures watermarks { options_of self.new.watermarks ≡ options_of self.old.watermarks }
+        ensures form { form_of self.new.text ≡ form_of self.old.text }
         ensures live { IsLive self.old.live → IsLive self.new.live }
         ensures rest { (self.new.number ≡ self.old.number) × (self.new.with_begun ≡ self.old.with_begun)
             × (self.new.strict ≡ self.old.strict) × (self.new.shown ≡ self.old.shown) }
     {
-        match read_content(&mut self.reader, self.live.inputs(), self.number, line) {
-            Ok(None) => Ok(None),
-            Ok(Some(said)) => take_said(
-                &mut self.live,
-                &mut self.rows,
-                &mut self.watermarks,
-                &mut self.events,
-                said,
-            ),
-            Err(ReadContentFault::Bad(why)) => Ok(Some(why)),
-            Err(ReadContentFault::OutOfMemory) => Err(OutOfMemory),
-        }
+        let inputs = self.live.inputs();
+        let why = self.text.take(inputs, self.number, line, &mut self.events)?;
+        take_events(&mut self.live, &mut self.rows, &self.events)?;
+        Ok(why)
     }
 
     // Writes what can be printed and wasn't, and then what has begun, if that is asked for. Then it lets go of rows that its state won't
@@ -238,12 +248,10 @@ impl LineRun {
         ensures rows { (accepted : AcceptedParts) (feed : Feed) (given : ℕ) → IsLiveOf self.old.live accepted feed given
             → KeepsRows self.old.rows (first_read accepted.core (tick_of_live self.old.live)) feed
             → OnOk result (KeepsRows self.new.rows (first_read accepted.core (tick_of_live self.new.live)) feed) }
-        ensures keeps { has_rows self.new.rows ≡ has_rows self.old.rows }
+        ensures keeps { keeps_state self.new ≡ keeps_state self.old }
         ensures no_bad_line { IfErr result (λ stop. stop ≡ Stop.BadLine → ⊥) }
         ensures rest { (self.new.number ≡ self.old.number) × (self.new.with_begun ≡ self.old.with_begun)
-            × (self.new.strict ≡ self.old.strict) }
-        ensures watermarks { (kept_by self.new.watermarks ≡ kept_by self.old.watermarks)
-            × (options_of self.new.watermarks ≡ options_of self.old.watermarks) }
+            × (self.new.strict ≡ self.old.strict) × (self.new.text ≡ self.old.text) }
         ensures live { IsLive self.new.live }
     {
         self.write_news(port)?;
@@ -263,9 +271,7 @@ impl LineRun {
             → OnOk result (self.old.with_begun ≡ true → self.new.shown ≡ begun_start (begun accepted.core feed)) }
         ensures no_bad_line { IfErr result (λ stop. stop ≡ Stop.BadLine → ⊥) }
         ensures rest { (self.new.number ≡ self.old.number) × (self.new.with_begun ≡ self.old.with_begun)
-            × (self.new.strict ≡ self.old.strict) × (self.new.rows ≡ self.old.rows) }
-        ensures watermarks { (kept_by self.new.watermarks ≡ kept_by self.old.watermarks)
-            × (options_of self.new.watermarks ≡ options_of self.old.watermarks) }
+            × (self.new.strict ≡ self.old.strict) × (self.new.rows ≡ self.old.rows) × (self.new.text ≡ self.old.text) }
         ensures live { IsLive self.new.live }
     {
         show_final(&mut self.live, port)?;
@@ -284,10 +290,10 @@ impl LineRun {
         written: u64,
     ) -> Result<LiveState, OutOfMemory>
         requires live { IsLive self.old.live }
-        requires keeps { has_rows self.old.rows ≡ true }
+        requires keeps { keeps_state self.old ≡ true }
         ensures is { (accepted : AcceptedParts) (options : RunOptions) (number : ℕ) (state : FeedState)
             → IsLineRunOf self.old accepted options number state (length (printed accepted.core state.feed))
-            → IsKeptOf options.watermarks.lateness state.kept state.feed
+            → IsKeptOf (row_options options.form).lateness (row_kept state.kept) state.feed
             → IfOk result (λ left. left ≡ record {
               query = query;
               progress = progress_of options accepted.core state bytes number written;
@@ -297,16 +303,21 @@ impl LineRun {
             → IsLineRunOf self.old accepted options number state (length (printed accepted.core state.feed))
             → OnOk result (IsLineRunOf self.new accepted options number state (length (printed accepted.core state.feed))) }
         ensures shown { self.new.shown ≡ self.old.shown }
-        ensures still_keeps { has_rows self.new.rows ≡ true }
+        ensures still_keeps { keeps_state self.new ≡ true }
         ensures live { IsLive self.new.live }
     {
         let shown = start_of(self.live.begun()?);
-        let kept = self.watermarks.kept(alloc)?;
+        let Some(options) = self.text.row_options() else {
+            unreachable!()
+        };
+        let Some(kept) = self.text.kept_rows(alloc)? else {
+            unreachable!()
+        };
         let inputs = self.inputs_left(alloc, &kept)?;
         Ok(LiveState {
             query,
             progress: Progress {
-                options: self.watermarks.options(),
+                options,
                 bytes,
                 lines: self.number,
                 written,

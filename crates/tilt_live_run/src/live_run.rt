@@ -2,11 +2,10 @@
 ghost use Rattle.std.specs.Prelude.{◌≡◌, ◌++◌, ◌&&◌, ℕ, List, [], true, false};
 ghost use Rattle.std.specs.Prelude.{◌∷◌, ◌↔◌, None, Some, length, IfOk, IfErr, OnOk, MatchOption, MatchResult};
 ghost use Rattle.tilt_compiler.specs.Accepted.{AcceptedParts};
-ghost use Rattle.tilt_feed_text.specs.Said.{FeedState};
+ghost use Rattle.tilt_feed_form.specs.Said.{FeedState};
 ghost use Rattle.tilt_feed_text.specs.Split.{ended};
 ghost use Rattle.tilt_live_run.specs.Adds.{Adds};
-ghost use Rattle.tilt_live_run.specs.KeptRows.{has_rows};
-ghost use Rattle.tilt_live_run.specs.Left.{KeepsState, state_left};
+ghost use Rattle.tilt_live_run.specs.Left.{KeepsState, is_rows, keeps_state, state_left};
 ghost use Rattle.tilt_live_run.specs.Output.{first_news};
 ghost use Rattle.tilt_live_run.specs.Reported.{Reported, Reports};
 ghost use Rattle.tilt_live_run.specs.Runs.{IsPlaced, IsRunAfter, IsRunOf, IsSound, added, end_report, is_stopped};
@@ -26,7 +25,8 @@ use crate::run_options::RunOptions;
 use crate::stop::Stop;
 use std::alloc::{AllocError as OutOfMemory, Global};
 use tilt_compiler::Accepted;
-use tilt_feed_text::{BadLine, append_cut};
+use tilt_feed_form::FeedForm;
+use tilt_feed_text::append_cut;
 use tilt_live_state::LiveState;
 use tilt_outside::Sink;
 use tilt_port::Port;
@@ -35,6 +35,7 @@ use tilt_text::until;
 
 /// The run of a query on the text of its feed. It takes the bytes of the feed, in pieces of any size, and writes what each line makes
 /// final, and with `with_begun` what has begun. Bad lines are reported and change nothing; if it is `strict`, the first one stops the run.
+/// Of a feed of readings, a bad line in place of the header stops it in any case.
 #[derive(Drop)]
 pub struct LiveRun {
     run: LineRun,
@@ -56,7 +57,7 @@ impl LiveRun {
         ensures is { IfOk result (λ run. IsRunOf run accepted options []) }
         ensures placed { IfOk result (λ run. IsPlaced run []) }
         ensures sound { IfOk result IsSound }
-        ensures keeps { IfOk result (λ run. KeepsState run ↔ (keep ≡ Keep.State)) }
+        ensures keeps { IfOk result (λ run. KeepsState run ↔ ((keep ≡ Keep.State) × (is_rows options.form ≡ true))) }
         ensures no_bad_line { IfErr result (λ stop. stop ≡ Stop.BadLine → ⊥) }
     {
         let mut run = LineRun::new(alloc, accepted, options, keep)?;
@@ -71,8 +72,8 @@ impl LiveRun {
         })
     }
 
-    /// The run that goes on from a state, of the query of which the state is. It is the run that was left, after the lines that it had
-    /// taken. Nothing is written. `OutOfMemory` comes if memory runs out, and for no other reason.
+    /// The run that goes on from a state, of the query of which the state is. Its feed is one of rows. It is the run that was left, after
+    /// the lines that it had taken. Nothing is written. `OutOfMemory` comes if memory runs out, and for no other reason.
     pub fn resume(
         alloc: Global,
         accepted: Accepted,
@@ -81,7 +82,7 @@ impl LiveRun {
         keep: Keep,
     ) -> Result<LiveRun, OutOfMemory>
         requires valid { IsStateOf accepted.core state }
-        requires same { state.progress.options ≡ options.watermarks }
+        requires same { options.form ≡ FeedForm.Rows state.progress.options }
         ensures is { IfOk result (λ run. (query : List StatementTree) (bytes : List ℕ) (written : ℕ)
             → state ≡ state_left options accepted.core query (ended bytes) written → IsRunOf run accepted options (ended bytes)) }
         ensures placed { IfOk result (λ run. (query : List StatementTree) (bytes : List ℕ) (written : ℕ)
@@ -101,7 +102,7 @@ impl LiveRun {
     }
 
     /// Takes the next piece of the feed: it writes what the lines that end in it make final, and reports the bad ones of them. `BadLine`
-    /// comes if the run is strict and one of them is bad, `WriteFault` only if the count of the port's write faults rose, and
+    /// comes if one of them is bad and stops the run, `WriteFault` only if the count of the port's write faults rose, and
     /// `OutOfMemory` if memory runs out. After an error the run is over.
     pub fn take<P: Port, E: Sink>(
         &mut self,
@@ -144,7 +145,7 @@ impl LiveRun {
             → HasTaken P.tells (P.transcript port.old) (P.transcript port.new) E.tells E.written E.faults err.old err.new
             (λ later. IsRunOf self.new accepted options later) accepted.core options bytes piece.now result }
         ensures placed { (bytes : List ℕ) → IsPlaced self.old bytes → OnOk result (IsPlaced self.new (bytes ++ piece.now)) }
-        ensures keeps { has_rows self.new.run.rows ≡ has_rows self.old.run.rows }
+        ensures keeps { keeps_state self.new.run ≡ keeps_state self.old.run }
         ensures sound { IsSound self.new }
         ensures takes { (n : ℕ) → E.takes err.new n }
     {
@@ -169,7 +170,7 @@ impl LiveRun {
             → HasStepped P.tells (P.transcript port.old) (P.transcript port.new) E.tells E.written E.faults err.old err.new
             (λ later. IsRunOf self.new accepted options later) accepted.core options bytes piece.now result }
         ensures placed { (bytes : List ℕ) → IsPlaced self.old bytes → OnOk result (IsPlaced self.new (bytes ++ piece.now)) }
-        ensures keeps { has_rows self.new.run.rows ≡ has_rows self.old.run.rows }
+        ensures keeps { keeps_state self.new.run ≡ keeps_state self.old.run }
         ensures sound { IsSound self.new }
         ensures takes { (n : ℕ) → E.takes err.new n }
     {
@@ -192,7 +193,7 @@ impl LiveRun {
         ensures kept { (self.new.run.shown ≡ self.old.run.shown) × (self.new.run.with_begun ≡ self.old.run.with_begun) }
         ensures no_write_fault { IfErr result (λ stop. stop ≡ Stop.WriteFault → ⊥) }
         ensures placed { (bytes : List ℕ) → IsPlaced self.old bytes → OnOk result (IsPlaced self.new (bytes ++ piece.now)) }
-        ensures keeps { has_rows self.new.run.rows ≡ has_rows self.old.run.rows }
+        ensures keeps { keeps_state self.new.run ≡ keeps_state self.old.run }
         ensures sound { IsSound self.new }
         ensures takes { (n : ℕ) → E.takes err.new n }
     {
@@ -218,7 +219,7 @@ impl LiveRun {
         ensures kept { (self.new.run.shown ≡ self.old.run.shown) × (self.new.run.with_begun ≡ self.old.run.with_begun) }
         ensures no_write_fault { IfErr result (λ stop. stop ≡ Stop.WriteFault → ⊥) }
         ensures placed { self.new.place ≡ self.old.place }
-        ensures keeps { has_rows self.new.run.rows ≡ has_rows self.old.run.rows }
+        ensures keeps { keeps_state self.new.run ≡ keeps_state self.old.run }
         ensures sound { IsSound self.new }
         ensures takes { (n : ℕ) → E.takes err.new n }
     {
@@ -236,7 +237,7 @@ impl LiveRun {
     pub fn end<E: Sink>(&self, err: &mut E) -> Result<(), Stop>
         requires lines { (n : ℕ) → E.takes err.old n }
         ensures reports { (accepted : AcceptedParts) (options : RunOptions) (bytes : List ℕ) → IsRunOf self.now accepted options bytes
-            → Reported E.tells E.written E.faults err.old err.new (end_report bytes) }
+            → Reported E.tells E.written E.faults err.old err.new (end_report options bytes) }
         ensures stops { (accepted : AcceptedParts) (options : RunOptions) (bytes : List ℕ) → IsRunOf self.now accepted options bytes
             → MatchResult result (λ _. (options.strict && is_unfinished bytes) ≡ false)
             (λ stop. (stop ≡ Stop.BadLine) × ((options.strict && is_unfinished bytes) ≡ true)) }
@@ -245,7 +246,7 @@ impl LiveRun {
         if self.pending.is_empty() {
             return Ok(());
         }
-        self.run.report_next(BadLine::NoEnd, err)
+        self.run.report_end(err)
     }
 
     /// What it hands on to the next run: its state after the lines that it has taken. `written` is how many bytes of output were written

@@ -1,12 +1,12 @@
-use tilt_watermarks::Options;
+use tilt_feed_form::FeedForm;
 
 /// What is asked of a run.
-#[derive(Clone, Copy, Debug, PartialEq, Eq)]
+#[derive(Debug, Drop)]
 pub struct RunOptions {
     /// Whether what has begun is written.
     pub with_begun: bool,
     /// Whether the first bad line stops the run.
     pub strict: bool,
-    /// What is asked of its watermarks.
-    pub watermarks: Options,
+    /// How the lines of its feed are written, and what they mean.
+    pub form: FeedForm,
 }

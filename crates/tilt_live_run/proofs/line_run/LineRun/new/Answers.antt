@@ -1,9 +1,9 @@
 use Rattle.std.proofs.Common.{◌∙◌, ℕ, List, ap, length, refl, subst}
 use Rattle.tilt_feed.specs.Feed.{empty_feed}
+use Rattle.tilt_feed_form.specs.Said.{first_kept}
 use Rattle.tilt_input_state.specs.Resume.{first_read}
 use Rattle.tilt_live.specs.Lives.{tick_of_live}
 use Rattle.tilt_live_run.specs.KeptRows.{KeepsRows}
-use Rattle.tilt_watermarks.specs.Steps.{nothing_kept}
 use Rattle.tilt_live_run.proofs.line_run.LineRun.new.Goals as goal
 
 pub returns-clause-is : goal.returns-clause-is
@@ -14,8 +14,8 @@ returns-clause-is c =
     let first = first_read core (tick_of_live c.in_ok-live.live) in
     record {
       live = live;
-      kept_is = c.in_ok-new-2.ensures.kept ∙ ap nothing_kept many;
-      watermarks_are = c.in_ok-new-2.ensures.options;
+      kept_is = c.in_ok-new-2.ensures.kept ∙ ap (first_kept c.args.options.form) many;
+      form_is = c.in_ok-new-2.ensures.form;
       number_is = refl;
       with_begun_is = refl;
       strict_is = refl;
@@ -24,3 +24,6 @@ returns-clause-is c =
 
 pub returns-clause-live : goal.returns-clause-live
 returns-clause-live c = c.in_ok-live.ensures.usable
+
+pub returns-clause-keeps : goal.returns-clause-keeps
+returns-clause-keeps c = rw (c.in_ok-new.ensures.keeps, c.in_ok-new-2.ensures.form) refl

@@ -13,13 +13,14 @@ returns-clause-is c = λ accepted options number state is belongs.
     let run = c.args.self.now in
     let found = c.in_ok-begun.ensures.begun accepted state.feed (length (printed core state.feed)) is.live in
     let rows = subst (λ (t : ℤ). KeepsRows run.rows (first_read core t) state.feed) (sym c.begun.ensures.tick) is.rows in
-    let kept = c.in_ok-kept.ensures.kept ∙ is.kept_is in
+    let kept = kept-some c.args.self.now.text c.in-Some-2.kept ? ∙ ap row_kept is.kept_is in
     let all = c.kept-2.view_is ∙ kept in
-    let own = subst (λ (k : Kept). IsKeptOf options.watermarks.lateness k state.feed) (sym kept) belongs in
-    let inputs = c.in_ok-inputs.ensures accepted state.feed options.watermarks.lateness found.1 rows own
+    let lateness = (row_options options.form).lateness in
+    let own = subst (λ (k : Kept). IsKeptOf lateness k state.feed) (sym kept) belongs in
+    let inputs = c.in_ok-inputs.ensures accepted state.feed lateness found.1 rows own
     ∙ ap (λ (k : Kept). each_left core state.feed state.feed.inputs k.inputs) kept in
     let same : to_z w64 (of_z w64 c.resume_tick.result) ≡ c.resume_tick.result = search rules in
-    let asked = c.options.ensures ∙ is.watermarks_are in
+    let asked = c.options.ensures ∙ is.form_is in
     let from = same ∙ c.resume_tick.ensures.all accepted state.feed found.1 in
     let shown = c.start_of-shown.ensures (begun core state.feed) (found.0 refl) in
     let finished = ap (λ (k : Kept). k.finished) all ∙ belongs.finished in
@@ -43,7 +44,7 @@ pub returns-clause-goes_on : goal.returns-clause-goes_on
 returns-clause-goes_on c = λ accepted options number state is. record {
   live = (c.in_ok-begun.ensures.begun accepted state.feed (length (printed accepted.core state.feed)) is.live).1;
   kept_is = is.kept_is;
-  watermarks_are = is.watermarks_are;
+  form_is = is.form_is;
   number_is = is.number_is;
   with_begun_is = is.with_begun_is;
   strict_is = is.strict_is;

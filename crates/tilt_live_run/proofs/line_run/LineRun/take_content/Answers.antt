@@ -1,32 +1,23 @@
-use Rattle.std.proofs.Common.{refl}
+use Rattle.std.proofs.Common.{◌≡◌, ◌∙◌, List, ap, subst, sym}
+use Rattle.tilt_feed.specs.Events.{after_all}
+use Rattle.tilt_feed.specs.Feed.{Feed}
+use Rattle.tilt_feed.specs.declared.event.Event.{Event}
+use Rattle.tilt_live.specs.Lives.{IsLiveOf}
+use Rattle.tilt_live_run.specs.KeptRows.{KeepsRows}
 use Rattle.tilt_live_run.proofs.line_run.LineRun.take_content.Goals as goal
 
-pub returns-in-Ok-Some-clause-taken : goal.returns-in-Ok-Some-clause-taken
-returns-in-Ok-Some-clause-taken c = λ accepted state given is kept.
-    let names = c.inputs.ensures.names accepted state.feed given is in
-    let said = rw (c.in-Ok-Some.field-0-is, names) at c.in-Ok-Some.ensures.content in
-    rw (said, ← kept) (c.take_said.ensures.taken accepted state.feed given is)
+pub returns-clause-taken : goal.returns-clause-taken
+returns-clause-taken c = λ accepted state given is kept.
+    let names = c.inputs-inputs.ensures.names accepted state.feed given is in
+    let events = c.deref.ensures.value ∙ rw (names, kept) at c.in_ok-why.ensures.events in
+    (
+      rw (names, kept) at c.in_ok-why.ensures.why,
+      rw (names, kept) at c.in_ok-why.ensures.kept,
+      rw events at (c.in_ok-take_events.ensures.taken accepted state.feed given is),
+    )
 
-pub returns-in-Err-Bad-clause-taken : goal.returns-in-Err-Bad-clause-taken
-returns-in-Err-Bad-clause-taken c = λ accepted state given is kept.
-    let names = c.inputs.ensures.names accepted state.feed given is in
-    let said = rw (c.in-Err-Bad.field-0-is, names) at c.in-Err-Bad.ensures.content in
-    (rw said refl, rw said kept, rw said is)
-
-pub returns-in-Ok-Some-clause-rows : goal.returns-in-Ok-Some-clause-rows
-returns-in-Ok-Some-clause-rows c = λ accepted state given first is kept keeps.
-    let names = c.inputs.ensures.names accepted state.feed given is in
-    let said = rw (c.in-Ok-Some.field-0-is, names) at c.in-Ok-Some.ensures.content in
-    rw (said, ← kept) (c.take_said.ensures.rows first state.feed keeps)
-
-pub returns-in-Err-Bad-clause-rows : goal.returns-in-Err-Bad-clause-rows
-returns-in-Err-Bad-clause-rows c = λ accepted state given first is kept keeps.
-    let names = c.inputs.ensures.names accepted state.feed given is in
-    let said = rw (c.in-Err-Bad.field-0-is, names) at c.in-Err-Bad.ensures.content in
-    rw said keeps
-
-pub returns-in-Ok-None-clause-rows : goal.returns-in-Ok-None-clause-rows
-returns-in-Ok-None-clause-rows c = λ accepted state given first is kept keeps.
-    let names = c.inputs.ensures.names accepted state.feed given is in
-    let said = rw (c.in-Ok-None.field-0-is, names) at c.in-Ok-None.ensures.content in
-    rw said keeps
+pub returns-clause-rows : goal.returns-clause-rows
+returns-clause-rows c = λ accepted state given first is kept keeps.
+    let names = c.inputs-inputs.ensures.names accepted state.feed given is in
+    let events = c.deref.ensures.value ∙ rw (names, kept) at c.in_ok-why.ensures.events in
+    rw events at (c.in_ok-take_events.ensures.rows first state.feed keeps)

@@ -21,11 +21,12 @@ pub returns-clause-reports : goal.returns-clause-reports
 returns-clause-reports g c = λ accepted options bytes is.
     let stored : vec_len c.args.self.now.pending ≡ length c.args.self.now.pending.items = search rules in
     let some = rw stored at (sym c.is_empty.ensures ∙ c.if-is_empty.false) in
-    rw (some-kept (unfinished bytes) c.args.self.now.pending.items is.after.pending some) (rw is.after.line_run.number_is at c.report_next.ensures.reported)
+    rw (some-kept (unfinished bytes) c.args.self.now.pending.items is.after.pending some)
+    (rw (is.after.line_run.number_is, is.after.line_run.form_is) at c.report_end.ensures.reported)
 
 pub returns-clause-stops : goal.returns-clause-stops
 returns-clause-stops g c = λ accepted options bytes is.
     let stored : vec_len c.args.self.now.pending ≡ length c.args.self.now.pending.items = search rules in
     let some = rw stored at (sym c.is_empty.ensures ∙ c.if-is_empty.false) in
     rw (some-kept (unfinished bytes) c.args.self.now.pending.items is.after.pending some)
-    (strict-same options.strict c.report_next.result (rw is.after.line_run.strict_is at c.report_next.ensures.result))
+    (strict-same options.strict c.report_end.result (rw is.after.line_run.strict_is at c.report_end.ensures.result))

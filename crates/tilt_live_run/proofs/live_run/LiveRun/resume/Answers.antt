@@ -1,4 +1,5 @@
 use Rattle.std.proofs.Common.{◌∙◌, ap}
+use Rattle.tilt_live_run.specs.Left.{is_rows}
 use Rattle.tilt_feed_text.proofs.Splitting.{are-ended}
 use Rattle.tilt_feed_text.specs.Split.{ended}
 use Rattle.tilt_live_run.proofs.KeepingRows.{needs-state}
@@ -13,7 +14,8 @@ returns-clause-is c = λ query bytes written is.
     let options = c.args.options in
     let accepted = c.args.accepted in
     let state = state_after options accepted.core (ended bytes) in
-    let left = state-left options accepted.core query (ended bytes) written c.args.state is in
+    let rows = ap is_rows c.requires.same in
+    let left = state-left options accepted.core query (ended bytes) written c.args.state rows is in
     let of = c.in_ok-run.ensures.is state left.0 left.1 in
     let lines = ap (λ (s : LiveStateParts). s.progress.lines) is in
     record {

@@ -1,7 +1,9 @@
 use Rattle.std.proofs.Common.{◌∙◌, ap, Err}
 use Rattle.std.proofs.lemmas.Result.{err_from_is_err_and}
+use Rattle.tilt_feed_form.specs.Machine.{form_of, kept_of}
 use Rattle.tilt_live_run.proofs.Adding.{adds-again, adds-value}
-use Rattle.tilt_live_run.proofs.KeepingRows.{needs-state}
+use Rattle.tilt_live_run.proofs.KeepingRows.{needs-both}
+use Rattle.tilt_live_run.specs.Left.{is_rows}
 use Rattle.tilt_live_run.proofs.live_run.LiveRun.start.Goals as goal
 
 pub returns-in_err-begin-clause-adds : goal.returns-in_err-begin-clause-adds
@@ -20,13 +22,12 @@ pub returns-clause-is : goal.returns-clause-is
 returns-clause-is g c =
     let made = c.in_ok-run.ensures.is in
     let rest = c.begin.ensures.rest in
-    let marks = c.begin.ensures.watermarks in
     record {
       after = record {
         line_run = record {
           live = c.in_ok-begin.ensures.goes_on c.args.accepted made.live;
-          kept_is = marks.0 ∙ made.kept_is;
-          watermarks_are = marks.1 ∙ made.watermarks_are;
+          kept_is = ap kept_of rest.3 ∙ made.kept_is;
+          form_is = ap form_of rest.3 ∙ made.form_is;
           number_is = rest.0 ∙ made.number_is;
           with_begun_is = rest.1 ∙ made.with_begun_is;
           strict_is = rest.2 ∙ made.strict_is;
@@ -39,4 +40,4 @@ returns-clause-is g c =
 
 pub returns-clause-keeps : goal.returns-clause-keeps
 returns-clause-keeps g c =
-    needs-state c.args.keep _ (c.begin.ensures.keeps ∙ c.in_ok-run.ensures.keeps)
+    needs-both c.args.keep (is_rows c.args.options.form) _ (c.begin.ensures.keeps ∙ c.in_ok-run.ensures.keeps)

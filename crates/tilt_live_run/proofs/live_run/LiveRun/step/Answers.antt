@@ -43,7 +43,7 @@ returns-clause-stepped g c = λ accepted options bytes is.
     (rw (shown-news options.with_begun core (state_after options core bytes).feed after c.args.self.now.run.shown is.begun) at adds) tt refl
     (taken-shown _ _ _ _ _ accepted options bytes c.args.piece.now given c.take_piece-taken.new.self _ c.take_piece-taken.result taken
     (c.in_ok-show.ensures.goes_on accepted after given live)
-    (λ yes. c.in_ok-show.ensures.begun accepted after given live (kept.1 ∙ is.after.line_run.with_begun_is ∙ yes)) c.show.ensures.rest c.show.ensures.watermarks
+    (λ yes. c.in_ok-show.ensures.begun accepted after given live (kept.1 ∙ is.after.line_run.with_begun_is ∙ yes)) c.show.ensures.rest
     (λ feed of keeps. c.in_ok-show.ensures.rows accepted feed given of keeps) refl)
 
 pub returns-in_err-show-clause-sound : goal.returns-in_err-show-clause-sound

@@ -2,7 +2,7 @@ use Rattle.std.proofs.Common.{◌≡◌, ◌∙◌, ◌++◌, ◌+◌, [], take,
 use Rattle.std.proofs.lemmas.Bool.{eqb-true}
 use Rattle.std.proofs.lemmas.List.{nil_from_length}
 use Rattle.std.proofs.lemmas.Result.{err_from_is_err_and}
-use Rattle.tilt_feed_text.proofs.Cutting.{content-cut}
+use Rattle.tilt_feed_form.proofs.Saying.{fault-cut, step-cut}
 use Rattle.tilt_feed_text.proofs.Splitting.{cut_again}
 use Rattle.tilt_feed_text.specs.declared.pending.TheConstants.{LINE}
 use Rattle.tilt_live_run.proofs.Pieces.{line-into, line-refused, line-same, on-err, on-ok}
@@ -46,7 +46,8 @@ returns-in_err-take-clause-taken g c = λ accepted options number state front gi
     line-into _ _ _ accepted.core options _ _ _ _ _ number state (front ++ c.args.end.now) _ c.from_residual-in_err-take.result (p.1 ∙ ap Err p.2)
     (on-err c.from_residual-in_err-take.result _ _ (p.1 ∙ ap Err p.2))
     (line-same _ _ _ accepted.core options _ _ _ _ number state (take (LINE + 1) (front ++ c.args.end.now)) (front ++ c.args.end.now) _
-    (content-cut accepted.core.inputs number (front ++ c.args.end.now))
+    (step-cut options.form accepted.core.inputs number (front ++ c.args.end.now) state.kept)
+    (fault-cut options.form accepted.core.inputs number (front ++ c.args.end.now) state.kept)
     (rw (c.deref.ensures.value ∙ cut) at (c.in_err-take.ensures.taken accepted options number state given is.line_run)))
 
 pub returns-clause-taken : goal.returns-clause-taken
@@ -56,7 +57,8 @@ returns-clause-taken g c = λ accepted options number state front given is.
     line-into _ _ _ accepted.core options _ _ _ _ _ number state (front ++ c.args.end.now) _ (Ok tt) refl
     (λ n s of. record { line_run = of; pending = c.clear.ensures.items })
     (line-same _ _ _ accepted.core options _ _ _ _ number state (take (LINE + 1) (front ++ c.args.end.now)) (front ++ c.args.end.now) _
-    (content-cut accepted.core.inputs number (front ++ c.args.end.now))
+    (step-cut options.form accepted.core.inputs number (front ++ c.args.end.now) state.kept)
+    (fault-cut options.form accepted.core.inputs number (front ++ c.args.end.now) state.kept)
     (rw (c.deref.ensures.value ∙ cut) at (c.in_ok-take.ensures.taken accepted options number state given is.line_run)))
 
 pub returns-then-is_empty-clause-sound : goal.returns-then-is_empty-clause-sound

@@ -1,9 +1,9 @@
 use Rattle.std.proofs.Common.{◌≡◌, ℕ, List, length}
 use Rattle.tilt_compiler.specs.Accepted.{AcceptedParts}
-use Rattle.tilt_feed_text.specs.Said.{FeedState}
+use Rattle.tilt_feed_form.specs.Said.{FeedState}
 use Rattle.tilt_live_run.proofs.Placing.{IsPassing}
 use Rattle.tilt_live_run.proofs.Underway.{IsUnderway}
-use Rattle.tilt_live_run.specs.KeptRows.{has_rows}
+use Rattle.tilt_live_run.specs.Left.{keeps_state}
 use Rattle.tilt_live_run.specs.Runs.{IsPlaced, IsRunAfter, IsSound}
 use Rattle.tilt_live_run.specs.declared.run_options.RunOptions.{RunOptions}
 use Rattle.tilt_live_run.proofs.live_run.LiveRun.take_piece.Given as goal
@@ -13,7 +13,7 @@ invariant-loop-line g l = record {
   takes : (n : ℕ) → g.E.Sink.takes l.err n;
   sound : IsSound l.self;
   placed : (bytes : List ℕ) → IsPlaced l.fn.self bytes → IsPassing bytes l.fn.piece l.self.place l.rest;
-  keeps : has_rows l.self.run.rows ≡ has_rows l.fn.self.run.rows;
+  keeps : keeps_state l.self.run ≡ keeps_state l.fn.self.run;
   shown : l.self.run.shown ≡ l.fn.self.run.shown;
   with_begun : l.self.run.with_begun ≡ l.fn.self.run.with_begun;
   of : (accepted : AcceptedParts) (options : RunOptions) (number : ℕ) (state : FeedState) (front : List ℕ) (given : ℕ)
