@@ -1,5 +1,5 @@
 -- What is kept for the state of a run while its feed goes on.
-use Rattle.std.proofs.Common.{◌≡◌, ◌↔◌, ◌&&◌, is_some, Bool, refl, true, false, [], ◌∷◌, Option, None, Some, Result, Ok, Err, OnOk, sym, ap, ◌∙◌, subst, inl, inr}
+use Rattle.std.proofs.Common.{◌≡◌, ◌↔◌, ◌&&◌, is_some, Bool, refl, true, false, [], ◌∷◌, Some, Result, Ok, Err, OnOk, sym, ap, ◌∙◌, subst, inl, inr}
 use Rattle.std.proofs.lemmas.Bool.{cases_Bool}
 use Rattle.std.proofs.lemmas.Option.{same_Some}
 use Rattle.std.specs.Option.{ForSome}

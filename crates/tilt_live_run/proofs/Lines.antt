@@ -17,16 +17,16 @@ use Rattle.tilt_live_run.specs.declared.stop.Stop.TheVariants as stop
 use Rattle.tilt_outside.specs.Counts.{next_count}
 use Rattle.tilt_stream.specs.Text.{lines_of}
 
-module _ {K : Type 0} (tells : Type 0) (written : K → List ℕ) (faults : K → ℕ) (core : CoreParts) (options : RunOptions) where
-  -- a bad line stops the run or not, by what is kept after it
-  pub bad-stops : (number : ℕ) (state : FeedState) (line : List ℕ) (why : BadFeedLine) (kept : TextKept) (strict : Bool)
-      → line_fault options.form core.inputs state.kept number line ≡ Some why → kept ≡ (after_line options.form core.inputs number line state).kept
-      → strict ≡ options.strict → stops options.strict options.form core.inputs state number line ≡ ends strict kept (Some why)
-  bad-stops number state line why kept strict bad is same =
-      let stays : after_line options.form core.inputs number line state ≡ state = bad-same options.form core.inputs number line state why bad in
-      let as : state.kept ≡ kept = sym (is ∙ ap (λ (s : FeedState). s.kept) stays) in
-      λ k. ends ((sym same) k) (as k) (bad k)
+-- a bad line stops the run or not, by what is kept after it
+pub bad-stops : (core : CoreParts) (options : RunOptions) (number : ℕ) (state : FeedState) (line : List ℕ) (why : BadFeedLine) (kept : TextKept) (strict : Bool)
+    → line_fault options.form core.inputs state.kept number line ≡ Some why → kept ≡ (after_line options.form core.inputs number line state).kept
+    → strict ≡ options.strict → stops options.strict options.form core.inputs state number line ≡ ends strict kept (Some why)
+bad-stops core options number state line why kept strict bad is same =
+    let stays : after_line options.form core.inputs number line state ≡ state = bad-same options.form core.inputs number line state why bad in
+    let held : state.kept ≡ kept = sym (is ∙ ap (λ (s : FeedState). s.kept) stays) in
+    λ k. ends ((sym same) k) (held k) (bad k)
 
+module _ {K : Type 0} (tells : Type 0) (written : K → List ℕ) (faults : K → ℕ) (core : CoreParts) (options : RunOptions) where
   -- a bad line stopped the run
   pub line-stopped : (err err_then : K) (Is : ℕ → FeedState → Type 0) (Holds : FeedState → Type 0) (number : ℕ) (state : FeedState) (line : List ℕ) (why : BadFeedLine)
       (result : Result (Unit {0}) Stop) → result ≡ Err stop.BadLine → line_fault options.form core.inputs state.kept number line ≡ Some why

@@ -48,21 +48,13 @@ module _ (options : RunOptions) (core : CoreParts) where
   abbrev pub state_of : TextKept → List Event → FeedState
   state_of kept events = record { kept = kept; feed = fed core events }
 
-  -- a line adds events
-  record AddsEvents (kept : TextKept) (events : List Event) (after : FeedState) : Type 0 where
-    kept_then : TextKept
-    more : List Event
-    is : after ≡ state_of kept_then (events ++ more)
-
+  -- a line adds its events
   line_adds : (number : ℕ) (kept : TextKept) (events : List Event) (line : List ℕ)
-      → AddsEvents kept events (after_line options.form core.inputs number line (state_of kept events))
+      → let step = line_step options.form core.inputs number line kept in
+      after_line options.form core.inputs number line (state_of kept events) ≡ state_of step.kept (events ++ step.events)
   line_adds number kept events line =
       let step = line_step options.form core.inputs number line kept in
-      record {
-        kept_then = step.kept;
-        more = step.events;
-        is = ap (λ (f : Feed). record { kept = step.kept; feed = f }) (sym (after-append events step.events (empty_feed (length core.inputs))));
-      }
+      ap (λ (f : Feed). record { kept = step.kept; feed = f }) (sym (after-append events step.events (empty_feed (length core.inputs))))
 
   -- so the feed of a query after lines is one of events
   pub record IsFed (state : FeedState) : Type 0 where
@@ -73,9 +65,9 @@ module _ (options : RunOptions) (core : CoreParts) where
       → IsFed (after_lines options.form core.inputs number (state_of kept events) lines)
   lines_fed number kept events [] = record { events = events; is = refl }
   lines_fed number kept events (line ∷ lines) =
-      let adds = line_adds number kept events line in
-      subst (λ (s : FeedState). IsFed (after_lines options.form core.inputs (next_count number) s lines)) (sym adds.is)
-      (lines_fed (next_count number) adds.kept_then (events ++ adds.more) lines)
+      let step = line_step options.form core.inputs number line kept in
+      subst (λ (s : FeedState). IsFed (after_lines options.form core.inputs (next_count number) s lines)) (sym (line_adds number kept events line))
+      (lines_fed (next_count number) step.kept (events ++ step.events) lines)
 
   pub state-fed : (bytes : List ℕ) → IsFed (state_after options core bytes)
   state-fed bytes = lines_fed 0 (first_kept options.form (length core.inputs)) [] (whole_lines bytes)
@@ -84,9 +76,7 @@ module _ (options : RunOptions) (core : CoreParts) (valid : IsCore core) where
   -- what was printed goes on after a line, and after more of them
   line_goes_on : (number : ℕ) (kept : TextKept) (events : List Event) (line : List ℕ)
       → ListGoesOn (printed core (fed core events)) (printed core (after_line options.form core.inputs number line (state_of options core kept events)).feed)
-  line_goes_on number kept events line =
-      let adds = line_adds options core number kept events line in
-      rw (adds.is, after-append events adds.more (empty_feed (length core.inputs))) (fed-printed core events adds.more valid)
+  line_goes_on number kept events line = fed-printed core events (line_step options.form core.inputs number line kept).events valid
 
   list_then : (a b c : List Snapshot) → ListGoesOn a b → ListGoesOn b c → ListGoesOn a c
   list_then a b c one two = record { rest = one.rest ++ two.rest; is = two.is ∙ rw one.is (append_assoc a one.rest two.rest) }
@@ -96,10 +86,11 @@ module _ (options : RunOptions) (core : CoreParts) (valid : IsCore core) where
   lines_go_on number kept events [] = record { rest = []; is = sym (append-nil (printed core (fed core events))) }
   lines_go_on number kept events (line ∷ lines) =
       let after = after_line options.form core.inputs number line (state_of options core kept events) in
+      let step = line_step options.form core.inputs number line kept in
       let adds = line_adds options core number kept events line in
       list_then (printed core (fed core events)) (printed core after.feed) _ (line_goes_on number kept events line)
-      (subst (λ (s : FeedState). ListGoesOn (printed core s.feed) (printed core (after_lines options.form core.inputs (next_count number) s lines).feed)) (sym adds.is)
-      (lines_go_on (next_count number) adds.kept_then (events ++ adds.more) lines))
+      (subst (λ (s : FeedState). ListGoesOn (printed core s.feed) (printed core (after_lines options.form core.inputs (next_count number) s lines).feed)) (sym adds)
+      (lines_go_on (next_count number) step.kept (events ++ step.events) lines))
 
   -- without what has begun, line by line is the same as at once
   pub news-at_once : options.with_begun ≡ false → (number : ℕ) (kept : TextKept) (events : List Event) (lines : List (List ℕ))
@@ -110,14 +101,15 @@ module _ (options : RunOptions) (core : CoreParts) (valid : IsCore core) where
       let before = fed core events in
       let after = after_line options.form core.inputs number line (state_of options core kept events) in
       let last = after_lines options.form core.inputs (next_count number) after lines in
+      let step = line_step options.form core.inputs number line kept in
       let adds = line_adds options core number kept events line in
       let rest : ListGoesOn (printed core after.feed) (printed core last.feed) =
-      subst (λ (s : FeedState). ListGoesOn (printed core s.feed) (printed core (after_lines options.form core.inputs (next_count number) s lines).feed)) (sym adds.is)
-      (lines_go_on (next_count number) adds.kept_then (events ++ adds.more) lines) in
+      subst (λ (s : FeedState). ListGoesOn (printed core s.feed) (printed core (after_lines options.form core.inputs (next_count number) s lines).feed)) (sym adds)
+      (lines_go_on (next_count number) step.kept (events ++ step.events) lines) in
       let later : news_from options core (next_count number) after lines ≡ news false core after.feed last.feed =
       subst (λ (s : FeedState). news_from options core (next_count number) s lines
-      ≡ news false core s.feed (after_lines options.form core.inputs (next_count number) s lines).feed) (sym adds.is)
-      (news-at_once quiet (next_count number) adds.kept_then (events ++ adds.more) lines) in
+      ≡ news false core s.feed (after_lines options.form core.inputs (next_count number) s lines).feed) (sym adds)
+      (news-at_once quiet (next_count number) step.kept (events ++ step.events) lines) in
       rw (
         quiet,
         later,

@@ -1,6 +1,6 @@
 // The run of a query, line by line.
 ghost use Rattle.std.specs.Prelude.{◌≡◌, Option, map, ◌++◌, ℕ, ℤ, [], None};
-ghost use Rattle.std.specs.Prelude.{true, false, length, drop, if◌then◌else◌, IfOk, IfErr, OnOk, MatchResult};
+ghost use Rattle.std.specs.Prelude.{◌&&◌, true, false, length, drop, if◌then◌else◌, IfOk, IfErr, OnOk, MatchResult};
 ghost use Rattle.tilt_compiler.specs.Accepted.{AcceptedParts};
 ghost use Rattle.tilt_feed.specs.Feed.{Feed, empty_feed};
 ghost use Rattle.tilt_feed.specs.Printed.{begun, printed};
@@ -44,7 +44,7 @@ use tilt_live_state::{InputState, LiveState, Progress};
 use tilt_outside::Sink;
 use tilt_port::Port;
 use tilt_syntax::Query;
-use tilt_watermarks::KeptState;
+use tilt_watermarks::{KeptState, Options};
 
 // The live engine of a query, and what was taken and written by it.
 #[derive(Drop)]
@@ -307,17 +307,12 @@ impl LineRun {
         ensures live { IsLive self.new.live }
     {
         let shown = start_of(self.live.begun()?);
-        let Some(options) = self.text.row_options() else {
-            unreachable!()
-        };
-        let Some(kept) = self.text.kept_rows(alloc)? else {
-            unreachable!()
-        };
+        let kept = self.row_kept(alloc)?;
         let inputs = self.inputs_left(alloc, &kept)?;
         Ok(LiveState {
             query,
             progress: Progress {
-                options,
+                options: self.row_options(),
                 bytes,
                 lines: self.number,
                 written,
@@ -329,6 +324,28 @@ impl LineRun {
             },
             inputs,
         })
+    }
+
+    // What is asked of the watermarks of a feed of rows.
+    fn row_options(&self) -> Options
+        requires { is_rows (form_of self.now.text) ≡ true }
+        ensures { result ≡ row_options (form_of self.now.text) }
+    {
+        let Some(options) = self.text.row_options() else {
+            unreachable!()
+        };
+        options
+    }
+
+    // What they keep.
+    fn row_kept(&self, alloc: Global) -> Result<KeptState, OutOfMemory>
+        requires { is_rows (form_of self.now.text) ≡ true }
+        ensures { IfOk result (λ kept. kept ≡ row_kept (kept_of self.now.text)) }
+    {
+        let Some(kept) = self.text.kept_rows(alloc)? else {
+            unreachable!()
+        };
+        Ok(kept)
     }
 
     // What is left of each input, of which the watermarks keep this. Of a finished feed no row is needed.

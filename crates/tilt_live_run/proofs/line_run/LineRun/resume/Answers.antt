@@ -11,13 +11,14 @@ use Rattle.tilt_watermarks.specs.Laws.{IsFit}
 use Rattle.tilt_watermarks.specs.Steps.{Kept}
 use Rattle.tilt_live_run.proofs.line_run.LineRun.resume.Goals as goal
 
-pub resume-requires-2-clause-fit : goal.resume-requires-2-clause-fit
-resume-requires-2-clause-fit c =
+pub resume_rows-requires-clause-fit : goal.resume_rows-requires-clause-fit
+resume_rows-requires-clause-fit c =
     let state = c.args.state.now in
     let inputs = c.deref-2.ensures.value ∙ ap (λ (s : LiveStateParts). s.inputs) c.state.view_is in
     let kept = ap (λ (k : Kept). k.inputs) c.in_ok-kept.ensures ∙ ap (map waiting_of) inputs in
     let fit = inputs-fit state.progress.options.lateness state.inputs c.requires.valid.inputs in
-    subst (AllByRecursion (IsFit state.progress.options.lateness)) (sym kept) fit
+    subst (λ (s : LiveStateParts). AllByRecursion (IsFit s.progress.options.lateness) c.in_ok-kept.kept.inputs) (sym c.state.view_is)
+    (subst (AllByRecursion (IsFit state.progress.options.lateness)) (sym kept) fit)
 
 pub returns-clause-is : goal.returns-clause-is
 returns-clause-is c = λ feeds left kept.

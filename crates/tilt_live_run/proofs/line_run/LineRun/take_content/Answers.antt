@@ -1,9 +1,4 @@
-use Rattle.std.proofs.Common.{◌≡◌, ◌∙◌, List, ap, subst, sym}
-use Rattle.tilt_feed.specs.Events.{after_all}
-use Rattle.tilt_feed.specs.Feed.{Feed}
-use Rattle.tilt_feed.specs.declared.event.Event.{Event}
-use Rattle.tilt_live.specs.Lives.{IsLiveOf}
-use Rattle.tilt_live_run.specs.KeptRows.{KeepsRows}
+use Rattle.std.proofs.Common.{◌∙◌}
 use Rattle.tilt_live_run.proofs.line_run.LineRun.take_content.Goals as goal
 
 pub returns-clause-taken : goal.returns-clause-taken
