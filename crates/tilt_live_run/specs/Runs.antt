@@ -77,7 +77,8 @@ taken_of options core bytes piece =
 
 -- what is written for them
 abbrev pub added : RunOptions → CoreParts → List ℕ → List ℕ → List ℕ
-added options core bytes piece = news_from options core (number_of bytes) (state_after options core bytes) (taken_of options core bytes piece)
+added options core bytes piece =
+    news_from options core (number_of bytes) (state_after options core bytes) (taken_of options core bytes piece)
 
 -- where the feed is after them
 abbrev pub state_taken : RunOptions → CoreParts → List ℕ → List ℕ → FeedState

@@ -35,7 +35,7 @@ use tilt_text::until;
 
 /// The run of a query on the text of its feed. It takes the bytes of the feed, in pieces of any size, and writes what each line makes
 /// final, and with `with_begun` what has begun. Bad lines are reported and change nothing; if it is `strict`, the first one stops the run.
-/// Of a feed of readings, a bad line in place of the header stops it in any case.
+/// A bad line before the header of readings always stops it.
 #[derive(Drop)]
 pub struct LiveRun {
     run: LineRun,

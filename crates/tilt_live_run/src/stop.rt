@@ -7,7 +7,7 @@ use tilt_outside::Failed;
 /// Why a run stops.
 #[derive(Clone, Copy, Debug, PartialEq, Eq, Error)]
 pub enum Stop {
-    /// A line is bad, and bad lines stop the run. It was reported.
+    /// A line is bad, and stops the run. It was reported.
     #[error("a line is bad")]
     BadLine,
     /// A write failed.
