@@ -1,25 +1,15 @@
 -- What is kept for the state of a run while its feed goes on.
-use Rattle.std.proofs.Common.{◌≡◌, ◌↔◌, ◌&&◌, is_some, Bool, refl, true, false, [], ◌∷◌, Some, Result, Ok, Err, OnOk, sym, ap, ◌∙◌, subst, inl, inr}
+use Rattle.std.proofs.Common.{◌≡◌, ◌↔◌, ◌&&◌, Bool, refl, true, false, [], ◌∷◌, Some, Result, Ok, Err, OnOk, sym, ap, ◌∙◌, subst, inl, inr}
 use Rattle.std.proofs.lemmas.Bool.{cases_Bool}
 use Rattle.std.proofs.lemmas.Option.{same_Some}
 use Rattle.std.specs.Option.{ForSome}
 use Rattle.tilt_feed.specs.Events.{after}
 use Rattle.tilt_feed.specs.Feed.{Feed}
 use Rattle.tilt_feed.specs.declared.event.Event.{Event}
-use Rattle.tilt_feed_form.specs.Machine.{form_of_lines, kept_of_lines}
-use Rattle.tilt_feed_form.specs.Said.{TextKept, kept_if_rows, options_if_rows}
-use Rattle.tilt_feed_form.specs.Said.TextKept.{OfReadings, OfRows}
-use Rattle.tilt_feed_form.specs.declared.feed_form.FeedForm.{FeedForm}
-use Rattle.tilt_feed_form.specs.declared.feed_form.FeedForm.TheVariants.{Readings, Rows}
-use Rattle.tilt_feed_form.specs.declared.feed_text.FeedLines.{FeedLines}
-use Rattle.tilt_feed_form.specs.declared.feed_text.FeedLines.TheVariants as lines
 use Rattle.tilt_live.proofs.Ever.{finished-after}
 use Rattle.tilt_live_run.specs.KeptRows.{needs_rows}
-use Rattle.tilt_live_run.specs.Left.{is_rows, row_kept, row_options}
 use Rattle.tilt_live_run.specs.declared.keep.Keep.{Keep}
 use Rattle.tilt_live_run.specs.declared.keep.Keep.TheVariants.{Nothing, State}
-use Rattle.tilt_watermarks.specs.Steps.{Kept}
-use Rattle.tilt_watermarks.specs.declared.options.Options.{Options}
 
 -- a feed that isn't finished after an event wasn't finished before it
 pub unfinished-before : (event : Event) (feed : Feed) → (after event feed).finished ≡ false → feed.finished ≡ false
@@ -44,20 +34,6 @@ needs-state State has is = (λ _. refl, λ _. is)
 pub needs-both : (keep : Keep) (rows has : Bool) → has ≡ (needs_rows keep && rows) → (has ≡ true) ↔ ((keep ≡ State) × (rows ≡ true))
 needs-both Nothing rows has is = (λ yes. absurd (cc (sym is ∙ yes)), λ both. absurd (cc both.0))
 needs-both State rows has is = (λ yes. (refl, sym is ∙ yes), λ both. is ∙ both.1)
-
--- a text of rows keeps what watermarks keep
-pub rows-text : (text : FeedLines) → is_rows (form_of_lines text) ≡ true → is_some (kept_if_rows (kept_of_lines text)) ≡ true
-rows-text (lines.Rows its) are = refl
-rows-text (lines.Readings its) are = absurd (cc are)
-
--- what is there of rows alone, if it is there
-pub kept-some : (kept : TextKept) (found : Kept) → kept_if_rows kept ≡ Some found → found ≡ row_kept kept
-kept-some (OfRows rows) found is = sym (same_Some rows found is)
-kept-some (OfReadings readings) found is = absurd (cc is)
-
-pub options-some : (form : FeedForm) (found : Options) → options_if_rows form ≡ Some found → found ≡ row_options form
-options-some (Rows options) found is = sym (same_Some options found is)
-options-some (Readings setup) found is = absurd (cc is)
 
 -- the same after a call, of a feed that isn't finished
 pub some-later : {A E : Type 0} (finished : Bool) (P : A → Type 0) (a : A) (result : Result (Unit {0}) E) → OnOk result (finished ≡ false → P a)
