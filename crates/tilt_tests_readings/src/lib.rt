@@ -14,6 +14,8 @@ mod feeds;
 #[cfg(test)]
 mod lines;
 #[cfg(test)]
+mod rows;
+#[cfg(test)]
 mod texts;
 #[cfg(test)]
 mod ticks;

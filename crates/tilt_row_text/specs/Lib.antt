@@ -1,0 +1,4 @@
+pub mod Dates
+pub mod Decimals
+pub mod Lines
+pub mod Styles
