@@ -11,11 +11,13 @@ use Rattle.tilt_live_run.proofs.Reporting.{reports-whole}
 use Rattle.tilt_live_run.specs.Output.{begun_news, begun_start, news}
 use Rattle.tilt_live_run.specs.Reported.{Reported}
 use Rattle.tilt_live_run.specs.Taken.{HasTakenLine}
+use Rattle.tilt_live_run.specs.declared.display.Display.{Display}
 use Rattle.tilt_live_run.specs.declared.run_options.RunOptions.{RunOptions}
 use Rattle.tilt_live_run.specs.declared.stop.Stop.{Stop}
 use Rattle.tilt_live_run.specs.declared.stop.Stop.TheVariants as stop
 use Rattle.tilt_outside.specs.Counts.{next_count}
-use Rattle.tilt_stream.specs.Text.{lines_of}
+use Rattle.tilt_row_text.specs.Lines.{lines_in}
+use Rattle.tilt_row_text.specs.declared.style.RowStyle.{RowStyle}
 
 -- a bad line stops the run or not, by what is kept after it
 pub bad-stops : (core : CoreParts) (options : RunOptions) (number : ℕ) (state : FeedState) (line : List ℕ) (why : BadFeedLine) (kept : TextKept) (strict : Bool)
@@ -56,8 +58,13 @@ module _ {K : Type 0} (tells : Type 0) (written : K → List ℕ) (faults : K �
   }
 
 -- what is shown after a feed that was shown is the news
-pub shown-news : (with_begun : Bool) (core : CoreParts) (before after : Feed) (shown : Option ℤ) → (with_begun ≡ true → shown ≡ begun_start (begun core before))
-    → lines_of (drop (length (printed core before)) (printed core after)) ++ (if with_begun then begun_news shown (begun core after) else [])
-    ≡ news with_begun core before after
-shown-news true core before after shown is = rw (is refl) refl
-shown-news false core before after shown is = refl
+shown_if : (with_begun : Bool) (style : RowStyle) (core : CoreParts) (before after : Feed) (shown : Option ℤ) → (with_begun ≡ true → shown ≡ begun_start (begun core before))
+    → lines_in style (drop (length (printed core before)) (printed core after)) ++ (if with_begun then begun_news style shown (begun core after) else [])
+    ≡ news (record { with_begun = with_begun; style = style }) core before after
+shown_if true style core before after shown is = rw (is refl) refl
+shown_if false style core before after shown is = refl
+
+pub shown-news : (display : Display) (core : CoreParts) (before after : Feed) (shown : Option ℤ) → (display.with_begun ≡ true → shown ≡ begun_start (begun core before))
+    → lines_in display.style (drop (length (printed core before)) (printed core after)) ++ (if display.with_begun then begun_news display.style shown (begun core after) else [])
+    ≡ news display core before after
+shown-news display core before after shown is = shown_if display.with_begun display.style core before after shown is

@@ -16,7 +16,7 @@ news-append options core number state [] ys = refl
 news-append options core number state (x ∷ xs) ys =
     let after = after_line options.form core.inputs number x state in
     rw (news-append options core (next_count number) after xs ys)
-    (sym (append_assoc (news options.with_begun core state.feed after.feed) (news_from options core (next_count number) after xs)
+    (sym (append_assoc (news options.display core state.feed after.feed) (news_from options core (next_count number) after xs)
     (news_from options core (number_after (next_count number) xs) (after_lines options.form core.inputs (next_count number) after xs) ys)))
 
 -- what is written for some lines and then more, if none of the first stops the run
@@ -35,4 +35,4 @@ output-append options core xs ys none =
       taken-all options.strict options.form core.inputs 0 state xs none,
       news-append options core 0 state xs later,
     )
-    (sym (append_assoc (first_news options.with_begun core) (news_from options core 0 state xs) (news_from options core (number_after 0 xs) after later)))
+    (sym (append_assoc (first_news options.display core) (news_from options core 0 state xs) (news_from options core (number_after 0 xs) after later)))

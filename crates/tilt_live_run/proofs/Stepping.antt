@@ -112,21 +112,21 @@ module _ (core : CoreParts) (options : RunOptions) (bytes : List ℕ) where
 
   -- what is news of one line, and of no line
   one_added : (n : ℕ) (s : FeedState) (x : List ℕ)
-      → news options.with_begun core s.feed (after_lines options.form core.inputs n s (taken_from options.strict options.form core.inputs n s (x ∷ []))).feed
+      → news options.display core s.feed (after_lines options.form core.inputs n s (taken_from options.strict options.form core.inputs n s (x ∷ []))).feed
       ≡ news_from options core n s (taken_from options.strict options.form core.inputs n s (x ∷ []))
   one_added n s x =
       elim (cases_Bool (stops options.strict options.form core.inputs s n x)) [
-        | inl stopped ↦ rw stopped (news-same options.with_begun core s.feed)
-        | inr going ↦ rw (going, append-nil (news options.with_begun core s.feed (after_line options.form core.inputs n x s).feed)) refl
+        | inl stopped ↦ rw stopped (news-same options.display core s.feed)
+        | inr going ↦ rw (going, append-nil (news options.display core s.feed (after_line options.form core.inputs n x s).feed)) refl
       ]
 
   pub line-added : (rest line after : List ℕ) → until_at 10 rest ≡ Some (line, after)
-      → news options.with_begun core (state_after options core bytes).feed (state_taken options core bytes (line ++ 10 ∷ [])).feed ≡ added options core bytes (line ++ 10 ∷ [])
+      → news options.display core (state_after options core bytes).feed (state_taken options core bytes (line ++ 10 ∷ [])).feed ≡ added options core bytes (line ++ 10 ∷ [])
   line-added rest line after found = rw (line-lines (unfinished bytes) rest line after found) (one_added (number_of bytes) (state_after options core bytes) (unfinished bytes ++ line))
 
   pub none-added : (rest : List ℕ) → until_at 10 rest ≡ None
-      → news options.with_begun core (state_after options core bytes).feed (state_taken options core bytes rest).feed ≡ added options core bytes rest
-  none-added rest none = rw (lines-none (unfinished bytes) rest none) (news-same options.with_begun core (state_after options core bytes).feed)
+      → news options.display core (state_after options core bytes).feed (state_taken options core bytes rest).feed ≡ added options core bytes rest
+  none-added rest none = rw (lines-none (unfinished bytes) rest none) (news-same options.display core (state_after options core bytes).feed)
 
 -- what was written whole, if the run stops for another reason then
 pub adds-bad : (tells : Type 0) (old new : Transcript) (bytes : List ℕ) (x : Unit {0}) → Adds tells old new bytes (Ok x) → Adds {T = Unit {0}} tells old new bytes (Err BadLine)
@@ -206,8 +206,8 @@ module _ {K : Type 0} (tells : Type 0) (written : K → List ℕ) (faults : K �
   -- the run that has shown it goes on after it
   pub taken-shown : (later : LiveRun) (outcome : Result (Unit {0}) Stop) → WasTaken outcome
       → (let after = state_taken options accepted.core bytes piece in IsLiveOf later.run.live accepted after.feed (length (printed accepted.core after.feed)))
-      → (options.with_begun ≡ true → later.run.shown ≡ begun_start (begun accepted.core (state_taken options accepted.core bytes piece).feed))
-      → (later.run.number ≡ run.run.number) × (later.run.with_begun ≡ run.run.with_begun) × (later.run.strict ≡ run.run.strict) × (later.run.text ≡ run.run.text)
+      → (options.display.with_begun ≡ true → later.run.shown ≡ begun_start (begun accepted.core (state_taken options accepted.core bytes piece).feed))
+      → (later.run.number ≡ run.run.number) × (later.run.display ≡ run.run.display) × (later.run.strict ≡ run.run.strict) × (later.run.text ≡ run.run.text)
       → ((feed : Feed) → IsLiveOf run.run.live accepted feed given → KeepsRows run.run.rows (first_read accepted.core (tick_of_live run.run.live)) feed
       → KeepsRows later.run.rows (first_read accepted.core (tick_of_live later.run.live)) feed)
       → later.pending.items ≡ run.pending.items
@@ -223,7 +223,7 @@ module _ {K : Type 0} (tells : Type 0) (written : K → List ℕ) (faults : K �
             kept_is = ap kept_of same.3 ∙ taken.goes_on.line_run.kept_is ∙ ap (λ (s : FeedState). s.kept) (sym (state-more options core bytes piece));
             form_is = ap form_of same.3 ∙ taken.goes_on.line_run.form_is;
             number_is = same.0 ∙ taken.goes_on.line_run.number_is ∙ sym (number-more bytes piece);
-            with_begun_is = same.1 ∙ taken.goes_on.line_run.with_begun_is;
+            display_is = same.1 ∙ taken.goes_on.line_run.display_is;
             strict_is = same.2 ∙ taken.goes_on.line_run.strict_is;
             rows = subst (λ (s : FeedState). KeepsRows later.run.rows (first_read core (tick_of_live later.run.live)) s.feed)
                 (sym (state-more options core bytes piece)) (rows _ taken.goes_on.line_run.live taken.goes_on.line_run.rows);

@@ -28,7 +28,7 @@ pub record IsLineRunOf (run : LineRun) (accepted : AcceptedParts) (options : Run
   pub kept_is : kept_of run.text ≡ state.kept
   pub form_is : form_of run.text ≡ options.form
   pub number_is : run.number ≡ number
-  pub with_begun_is : run.with_begun ≡ options.with_begun
+  pub display_is : run.display ≡ options.display
   pub strict_is : run.strict ≡ options.strict
   pub rows : KeepsRows run.rows (first_read accepted.core (tick_of_live run.live)) state.feed
 
@@ -40,7 +40,7 @@ pub record IsRunAfter (run : LiveRun) (accepted : AcceptedParts) (options : RunO
 -- all that can be printed was written, and what has begun
 pub record IsShown (run : LiveRun) (accepted : AcceptedParts) (options : RunOptions) (number : ℕ) (state : FeedState) (front : List ℕ) : Type 0 where
   pub after : IsRunAfter run accepted options number state front (length (printed accepted.core state.feed))
-  pub begun : options.with_begun ≡ true → run.run.shown ≡ begun_start (begun accepted.core state.feed)
+  pub begun : options.display.with_begun ≡ true → run.run.shown ≡ begun_start (begun accepted.core state.feed)
 
 -- a run that can go on: its engine runs, or memory was refused to it; and of a line no more is kept than shows that it is too long
 pub record IsSound (run : LiveRun) : Type 0 where

@@ -29,7 +29,7 @@ module _ {K : Type 0} (port_tells : Type 0) (port port_then : Transcript) (tells
 
   -- what all of its lines make final was written at once
   abbrev pub HasStepped : Type 0
-  HasStepped = HasWritten (news options.with_begun core (state_after options core bytes).feed (state_taken options core bytes piece).feed)
+  HasStepped = HasWritten (news options.display core (state_after options core bytes).feed (state_taken options core bytes piece).feed)
 
   -- what each of its lines adds was written
   abbrev pub HasTaken : Type 0

@@ -11,7 +11,7 @@
 //! have.
 #![tactic(auto)]
 
-mod begun_text;
+mod display;
 mod events;
 mod inputs;
 mod keep;
@@ -24,6 +24,7 @@ mod shown;
 mod state_rows;
 mod stop;
 
+pub use display::Display;
 pub use keep::Keep;
 pub use law::output_is_printed;
 pub use live_run::LiveRun;

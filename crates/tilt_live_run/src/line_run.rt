@@ -19,7 +19,7 @@ ghost use Rattle.tilt_live_run.specs.Runs.{IsLineRunOf};
 ghost use Rattle.tilt_live_run.specs.Taken.{HasTakenLine};
 ghost use Rattle.tilt_live_run.specs.declared.run_options.RunOptions.{RunOptions};
 ghost use Rattle.tilt_outside.specs.Counts.{next_count};
-ghost use Rattle.tilt_stream.specs.Text.{lines_of};
+ghost use Rattle.tilt_row_text.specs.Lines.{lines_in};
 ghost use Rattle.tilt_live.specs.Resuming.{IsLeft};
 ghost use Rattle.tilt_live_state.specs.State as parts;
 ghost use Rattle.tilt_live_state.specs.Valid.{IsStateOf};
@@ -27,6 +27,7 @@ ghost use Rattle.tilt_engine.specs.Engines.{begun_pair};
 ghost use Rattle.tilt_feed.specs.Printed.{Begun};
 ghost use Rattle.tilt_watermarks.specs.Laws.{IsKeptOf};
 
+use crate::display::Display;
 use crate::events::take_events;
 use crate::inputs::{join_inputs, kept_state, known_inputs};
 use crate::keep::Keep;
@@ -57,7 +58,7 @@ pub(crate) struct LineRun {
     events: Vec<Event>,
     // How many lines were taken, as far as the count goes.
     pub(crate) number: u64,
-    pub(crate) with_begun: bool,
+    pub(crate) display: Display,
     strict: bool,
     // The start of the snapshot that had begun after the last line.
     pub(crate) shown: Option<i64>,
@@ -84,7 +85,7 @@ impl LineRun {
             text: FeedText::new(alloc, options.form, inputs as u32)?,
             events: Vec::new(alloc),
             number: 0,
-            with_begun: options.with_begun,
+            display: options.display,
             strict: options.strict,
             shown: None,
         })
@@ -119,7 +120,7 @@ impl LineRun {
             text: FeedText::resume_rows(alloc, progress.options, &kept)?,
             events: Vec::new(alloc),
             number: progress.lines,
-            with_begun: options.with_begun,
+            display: options.display,
             strict: options.strict,
             shown: progress.shown,
         })
@@ -130,19 +131,19 @@ impl LineRun {
         requires live { IsLive self.old.live }
         ensures adds { (accepted : AcceptedParts) → IsLiveOf self.old.live accepted (empty_feed (length accepted.core.inputs)) 0
             → self.old.shown ≡ None
-            → Adds P.tells (P.transcript port.old) (P.transcript port.new) (first_news self.old.with_begun accepted.core) result }
+            → Adds P.tells (P.transcript port.old) (P.transcript port.new) (first_news self.old.display accepted.core) result }
         ensures goes_on { (accepted : AcceptedParts) → IsLiveOf self.old.live accepted (empty_feed (length accepted.core.inputs)) 0
             → OnOk result (IsLiveOf self.new.live accepted (empty_feed (length accepted.core.inputs))
             (length (printed accepted.core (empty_feed (length accepted.core.inputs))))) }
         ensures begun { (accepted : AcceptedParts) → IsLiveOf self.old.live accepted (empty_feed (length accepted.core.inputs)) 0
-            → OnOk result (self.old.with_begun ≡ true
+            → OnOk result (self.old.display.with_begun ≡ true
             → self.new.shown ≡ begun_start (begun accepted.core (empty_feed (length accepted.core.inputs)))) }
         ensures rows { (accepted : AcceptedParts) → IsLiveOf self.old.live accepted (empty_feed (length accepted.core.inputs)) 0
             → KeepsRows self.old.rows (first_read accepted.core (tick_of_live self.old.live)) (empty_feed (length accepted.core.inputs))
             → OnOk result (KeepsRows self.new.rows (first_read accepted.core (tick_of_live self.new.live))
             (empty_feed (length accepted.core.inputs))) }
         ensures keeps { keeps_state self.new ≡ keeps_state self.old }
-        ensures rest { (self.new.number ≡ self.old.number) × (self.new.with_begun ≡ self.old.with_begun)
+        ensures rest { (self.new.number ≡ self.old.number) × (self.new.display ≡ self.old.display)
             × (self.new.strict ≡ self.old.strict) × (self.new.text ≡ self.old.text) }
         ensures no_bad_line { IfErr result (λ stop. stop ≡ Stop.BadLine → ⊥) }
         ensures live { IsLive self.new.live }
@@ -158,7 +159,7 @@ impl LineRun {
             → IsLineRunOf self.old accepted options number state given
             → HasTakenLine E.tells E.written E.faults err.old err.new (λ n s. IsLineRunOf self.new accepted options n s given)
             (λ s. IsLiveOf self.new.live accepted s.feed given) accepted.core options number state line.now result }
-        ensures kept { (self.new.shown ≡ self.old.shown) × (self.new.with_begun ≡ self.old.with_begun) }
+        ensures kept { (self.new.shown ≡ self.old.shown) × (self.new.display ≡ self.old.display) }
         ensures keeps { keeps_state self.new ≡ keeps_state self.old }
         ensures no_write_fault { IfErr result (λ stop. stop ≡ Stop.WriteFault → ⊥) }
         ensures live { IsLive self.old.live → IsLive self.new.live }
@@ -225,7 +226,7 @@ impl LineRun {
         ensures keeps { has_rows self.new.rows ≡ has_rows self.old.rows }
         ensures form { form_of self.new.text ≡ form_of self.old.text }
         ensures live { IsLive self.old.live → IsLive self.new.live }
-        ensures rest { (self.new.number ≡ self.old.number) × (self.new.with_begun ≡ self.old.with_begun)
+        ensures rest { (self.new.number ≡ self.old.number) × (self.new.display ≡ self.old.display)
             × (self.new.strict ≡ self.old.strict) × (self.new.shown ≡ self.old.shown) }
     {
         let inputs = self.live.inputs();
@@ -239,18 +240,20 @@ impl LineRun {
     pub(crate) fn show<P: Port>(&mut self, port: &mut P) -> Result<(), Stop>
         requires live { IsLive self.old.live }
         ensures adds { (accepted : AcceptedParts) (feed : Feed) (given : ℕ) → IsLiveOf self.old.live accepted feed given
-            → Adds P.tells (P.transcript port.old) (P.transcript port.new) (lines_of (drop given (printed accepted.core feed))
-            ++ (if self.old.with_begun then begun_news self.old.shown (begun accepted.core feed) else [])) result }
+            → Adds P.tells (P.transcript port.old) (P.transcript port.new)
+            (lines_in self.old.display.style (drop given (printed accepted.core feed))
+            ++ (if self.old.display.with_begun
+            then begun_news self.old.display.style self.old.shown (begun accepted.core feed) else [])) result }
         ensures goes_on { (accepted : AcceptedParts) (feed : Feed) (given : ℕ) → IsLiveOf self.old.live accepted feed given
             → OnOk result (IsLiveOf self.new.live accepted feed (length (printed accepted.core feed))) }
         ensures begun { (accepted : AcceptedParts) (feed : Feed) (given : ℕ) → IsLiveOf self.old.live accepted feed given
-            → OnOk result (self.old.with_begun ≡ true → self.new.shown ≡ begun_start (begun accepted.core feed)) }
+            → OnOk result (self.old.display.with_begun ≡ true → self.new.shown ≡ begun_start (begun accepted.core feed)) }
         ensures rows { (accepted : AcceptedParts) (feed : Feed) (given : ℕ) → IsLiveOf self.old.live accepted feed given
             → KeepsRows self.old.rows (first_read accepted.core (tick_of_live self.old.live)) feed
             → OnOk result (KeepsRows self.new.rows (first_read accepted.core (tick_of_live self.new.live)) feed) }
         ensures keeps { keeps_state self.new ≡ keeps_state self.old }
         ensures no_bad_line { IfErr result (λ stop. stop ≡ Stop.BadLine → ⊥) }
-        ensures rest { (self.new.number ≡ self.old.number) × (self.new.with_begun ≡ self.old.with_begun)
+        ensures rest { (self.new.number ≡ self.old.number) × (self.new.display ≡ self.old.display)
             × (self.new.strict ≡ self.old.strict) × (self.new.text ≡ self.old.text) }
         ensures live { IsLive self.new.live }
     {
@@ -263,20 +266,22 @@ impl LineRun {
     fn write_news<P: Port>(&mut self, port: &mut P) -> Result<(), Stop>
         requires live { IsLive self.old.live }
         ensures adds { (accepted : AcceptedParts) (feed : Feed) (given : ℕ) → IsLiveOf self.old.live accepted feed given
-            → Adds P.tells (P.transcript port.old) (P.transcript port.new) (lines_of (drop given (printed accepted.core feed))
-            ++ (if self.old.with_begun then begun_news self.old.shown (begun accepted.core feed) else [])) result }
+            → Adds P.tells (P.transcript port.old) (P.transcript port.new)
+            (lines_in self.old.display.style (drop given (printed accepted.core feed))
+            ++ (if self.old.display.with_begun
+            then begun_news self.old.display.style self.old.shown (begun accepted.core feed) else [])) result }
         ensures goes_on { (accepted : AcceptedParts) (feed : Feed) (given : ℕ) → IsLiveOf self.old.live accepted feed given
             → OnOk result (IsLiveOf self.new.live accepted feed (length (printed accepted.core feed))) }
         ensures begun { (accepted : AcceptedParts) (feed : Feed) (given : ℕ) → IsLiveOf self.old.live accepted feed given
-            → OnOk result (self.old.with_begun ≡ true → self.new.shown ≡ begun_start (begun accepted.core feed)) }
+            → OnOk result (self.old.display.with_begun ≡ true → self.new.shown ≡ begun_start (begun accepted.core feed)) }
         ensures no_bad_line { IfErr result (λ stop. stop ≡ Stop.BadLine → ⊥) }
-        ensures rest { (self.new.number ≡ self.old.number) × (self.new.with_begun ≡ self.old.with_begun)
+        ensures rest { (self.new.number ≡ self.old.number) × (self.new.display ≡ self.old.display)
             × (self.new.strict ≡ self.old.strict) × (self.new.rows ≡ self.old.rows) × (self.new.text ≡ self.old.text) }
         ensures live { IsLive self.new.live }
     {
-        show_final(&mut self.live, port)?;
-        if self.with_begun {
-            self.shown = show_begun(&mut self.live, self.shown, port)?;
+        show_final(&mut self.live, self.display.style, port)?;
+        if self.display.with_begun {
+            self.shown = show_begun(&mut self.live, self.display.style, self.shown, port)?;
         }
         Ok(())
     }

@@ -34,7 +34,8 @@ use tilt_syntax::Query;
 use tilt_text::until;
 
 /// The run of a query on the text of its feed. It takes the bytes of the feed, in pieces of any size, and writes what each line makes
-/// final, and with `with_begun` what has begun. Bad lines are reported and change nothing; if it is `strict`, the first one stops the run.
+/// final, and what has begun if its display says so. Bad lines are reported and change nothing; if it is `strict`, the first one stops the
+/// run.
 /// A bad line before the header of readings always stops it.
 #[derive(Drop)]
 pub struct LiveRun {
@@ -53,7 +54,7 @@ impl LiveRun {
         keep: Keep,
         port: &mut P,
     ) -> Result<LiveRun, Stop>
-        ensures adds { Adds P.tells (P.transcript port.old) (P.transcript port.new) (first_news options.with_begun accepted.core) result }
+        ensures adds { Adds P.tells (P.transcript port.old) (P.transcript port.new) (first_news options.display accepted.core) result }
         ensures is { IfOk result (λ run. IsRunOf run accepted options []) }
         ensures placed { IfOk result (λ run. IsPlaced run []) }
         ensures sound { IfOk result IsSound }
@@ -126,7 +127,7 @@ impl LiveRun {
         ensures sound { IsSound self.new }
         ensures takes { (n : ℕ) → E.takes err.new n }
     {
-        if !self.run.with_begun {
+        if !self.run.display.with_begun {
             return self.step(piece, port, err);
         }
         self.take_lines(piece, port, err)
@@ -190,7 +191,7 @@ impl LiveRun {
             → IsRunAfter self.old accepted options number state front given
             → HasTakenPiece E.tells E.written E.faults err.old err.new (λ n s rest. IsRunAfter self.new accepted options n s rest given)
             (λ s. IsLiveOf self.new.run.live accepted s.feed given) accepted.core options number state front piece.now result }
-        ensures kept { (self.new.run.shown ≡ self.old.run.shown) × (self.new.run.with_begun ≡ self.old.run.with_begun) }
+        ensures kept { (self.new.run.shown ≡ self.old.run.shown) × (self.new.run.display ≡ self.old.run.display) }
         ensures no_write_fault { IfErr result (λ stop. stop ≡ Stop.WriteFault → ⊥) }
         ensures placed { (bytes : List ℕ) → IsPlaced self.old bytes → OnOk result (IsPlaced self.new (bytes ++ piece.now)) }
         ensures keeps { keeps_state self.new.run ≡ keeps_state self.old.run }
@@ -216,7 +217,7 @@ impl LiveRun {
             → IsRunAfter self.old accepted options number state front given
             → HasTakenLine E.tells E.written E.faults err.old err.new (λ n s. IsRunAfter self.new accepted options n s [] given)
             (λ s. IsLiveOf self.new.run.live accepted s.feed given) accepted.core options number state (front ++ end.now) result }
-        ensures kept { (self.new.run.shown ≡ self.old.run.shown) × (self.new.run.with_begun ≡ self.old.run.with_begun) }
+        ensures kept { (self.new.run.shown ≡ self.old.run.shown) × (self.new.run.display ≡ self.old.run.display) }
         ensures no_write_fault { IfErr result (λ stop. stop ≡ Stop.WriteFault → ⊥) }
         ensures placed { self.new.place ≡ self.old.place }
         ensures keeps { keeps_state self.new.run ≡ keeps_state self.old.run }

@@ -11,5 +11,5 @@ invariant-loop g l = record {
   live : IsLive l.live;
   of : (accepted : AcceptedParts) (feed : Feed) (given : ℕ) → IsLiveOf l.fn.live accepted feed given
       → (place : ℕ) × IsLiveOf l.live accepted feed place
-      × IsShown g.P.Port.tells (g.P.Port.transcript l.fn.port) (g.P.Port.transcript l.port) (printed accepted.core feed) given place;
+      × IsShown g.P.Port.tells l.fn.style (g.P.Port.transcript l.fn.port) (g.P.Port.transcript l.port) (printed accepted.core feed) given place;
 }

@@ -17,7 +17,7 @@ returns-clause-is c =
       kept_is = c.in_ok-new-2.ensures.kept ∙ ap (first_kept c.args.options.form) many;
       form_is = c.in_ok-new-2.ensures.form;
       number_is = refl;
-      with_begun_is = refl;
+      display_is = refl;
       strict_is = refl;
       rows = subst (λ (n : ℕ). KeepsRows c.in_ok-new.field-0 first (empty_feed n)) many (c.in_ok-new.ensures.rows first);
     }

@@ -45,7 +45,7 @@ returns-clause-is c = λ feeds left kept.
           ∙ kept;
       form_is = c.in_ok-resume_rows.ensures.form ∙ ap Rows (ap (λ (s : LiveStateParts). s.progress.options) view) ∙ sym c.requires.same;
       number_is = ap (λ (s : LiveStateParts). s.progress.lines) view;
-      with_begun_is = refl;
+      display_is = refl;
       strict_is = refl;
       rows = subst (λ (t : ℤ). KeepsRows c.in_ok-of.field-0 (first_read core t) feeds.feed) (sym tick)
           (c.in_ok-of.ensures.rows (first_read core state.progress.from) feeds.feed (λ going. c.deref-4.ensures.value ∙ known ∙ left.inputs_are going));

@@ -47,7 +47,7 @@ returns-clause-goes_on c = λ accepted options number state is. record {
   kept_is = is.kept_is;
   form_is = is.form_is;
   number_is = is.number_is;
-  with_begun_is = is.with_begun_is;
+  display_is = is.display_is;
   strict_is = is.strict_is;
   rows = subst (λ (t : ℤ). KeepsRows c.args.self.now.rows (first_read accepted.core t) state.feed) (sym c.begun.ensures.tick) is.rows;
 }

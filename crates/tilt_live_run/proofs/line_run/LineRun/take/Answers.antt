@@ -53,7 +53,7 @@ returns-clause-taken g c = λ accepted options number state given is.
       kept_is = taken.1;
       form_is = c.in_ok-why.ensures.form ∙ is.form_is;
       number_is = c.saturating_add-self.ensures ∙ rw (rest.0, is.number_is) refl;
-      with_begun_is = rest.1 ∙ is.with_begun_is;
+      display_is = rest.1 ∙ is.display_is;
       strict_is = rest.2 ∙ is.strict_is;
       rows = rows;
     })

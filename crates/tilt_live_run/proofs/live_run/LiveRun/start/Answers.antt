@@ -1,6 +1,7 @@
 use Rattle.std.proofs.Common.{◌∙◌, ap, Err}
 use Rattle.std.proofs.lemmas.Result.{err_from_is_err_and}
 use Rattle.tilt_feed_form.specs.Machine.{form_of, kept_of}
+use Rattle.tilt_live_run.specs.declared.display.Display.{Display}
 use Rattle.tilt_live_run.proofs.Adding.{adds-again, adds-value}
 use Rattle.tilt_live_run.proofs.KeepingRows.{needs-both}
 use Rattle.tilt_live_run.specs.Left.{is_rows}
@@ -11,12 +12,12 @@ returns-in_err-begin-clause-adds g c =
     let p = err_from_is_err_and c.from_residual-in_err-begin.result c.from_residual-in_err-begin.ensures.1 in
     let made = c.in_ok-run.ensures.is in
     adds-again _ _ _ _ c.in_err-begin.field-0.0 c.from_residual-in_err-begin.result (p.1 ∙ ap Err p.2)
-    (rw made.with_begun_is at (c.in_err-begin.ensures.adds c.args.accepted made.live c.in_ok-run.ensures.shown))
+    (rw made.display_is at (c.in_err-begin.ensures.adds c.args.accepted made.live c.in_ok-run.ensures.shown))
 
 pub returns-clause-adds : goal.returns-clause-adds
 returns-clause-adds g c =
     let made = c.in_ok-run.ensures.is in
-    adds-value _ _ _ _ _ _ (rw made.with_begun_is at (c.in_ok-begin.ensures.adds c.args.accepted made.live c.in_ok-run.ensures.shown))
+    adds-value _ _ _ _ _ _ (rw made.display_is at (c.in_ok-begin.ensures.adds c.args.accepted made.live c.in_ok-run.ensures.shown))
 
 pub returns-clause-is : goal.returns-clause-is
 returns-clause-is g c =
@@ -29,13 +30,13 @@ returns-clause-is g c =
           kept_is = ap kept_of rest.3 ∙ made.kept_is;
           form_is = ap form_of rest.3 ∙ made.form_is;
           number_is = rest.0 ∙ made.number_is;
-          with_begun_is = rest.1 ∙ made.with_begun_is;
+          display_is = rest.1 ∙ made.display_is;
           strict_is = rest.2 ∙ made.strict_is;
           rows = c.in_ok-begin.ensures.rows c.args.accepted made.live made.rows;
         };
         pending = c.new-2.ensures.items;
       };
-      begun = λ on. c.in_ok-begin.ensures.begun c.args.accepted made.live (made.with_begun_is ∙ on);
+      begun = λ on. c.in_ok-begin.ensures.begun c.args.accepted made.live (ap (λ (display : Display). display.with_begun) made.display_is ∙ on);
     }
 
 pub returns-clause-keeps : goal.returns-clause-keeps

@@ -1,11 +1,12 @@
-use Rattle.std.proofs.Common.{◌∙◌, sym}
+use Rattle.std.proofs.Common.{◌∙◌, sym, ap}
+use Rattle.tilt_live_run.specs.declared.display.Display.{Display}
 use Rattle.tilt_live_run.proofs.Newly.{piece-at_once}
 use Rattle.tilt_live_run.proofs.live_run.LiveRun.take.Goals as goal
 
 pub returns-then-not-self-clause-adds : goal.returns-then-not-self-clause-adds
 returns-then-not-self-clause-adds g c = λ accepted options bytes is.
     rw (← piece-at_once options accepted.core is.after.line_run.live.running.valid.valid bytes c.args.piece.now
-    (sym is.after.line_run.with_begun_is ∙ c.if-not-self.true)) (c.step.ensures.stepped accepted options bytes is).adds
+    (ap (λ (display : Display). display.with_begun) (sym is.after.line_run.display_is) ∙ c.if-not-self.true)) (c.step.ensures.stepped accepted options bytes is).adds
 
 pub returns-then-not-self-clause-stops : goal.returns-then-not-self-clause-stops
 returns-then-not-self-clause-stops g c = λ accepted options bytes is. (c.step.ensures.stepped accepted options bytes is).stops

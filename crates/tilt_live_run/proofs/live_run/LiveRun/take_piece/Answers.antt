@@ -16,7 +16,7 @@ loop-line-init g c = record {
   placed = λ bytes is. passing-first bytes c.args.piece.now c.args.self.now.place is;
   keeps = refl;
   shown = refl;
-  with_begun = refl;
+  display = refl;
   of = λ accepted options number state front given is. underway-first _ _ _ accepted options given _ number state front _ c.args.self.now is;
 }
 
@@ -35,7 +35,7 @@ returns-in_err-take_end-clause-taken g c = λ accepted options number state fron
 
 pub returns-in_err-take_end-clause-kept : goal.returns-in_err-take_end-clause-kept
 returns-in_err-take_end-clause-kept g c =
-    (c.take_end.ensures.kept.0 ∙ c.loop-line.invariant.shown, c.take_end.ensures.kept.1 ∙ c.loop-line.invariant.with_begun)
+    (c.take_end.ensures.kept.0 ∙ c.loop-line.invariant.shown, c.take_end.ensures.kept.1 ∙ c.loop-line.invariant.display)
 
 pub loop-line-smaller : goal.loop-line-smaller
 loop-line-smaller g c = rest-shorter c.loop-line.rest.now c.in-Some.line.now c.in-Some.after.now c.in-Some.ensures
@@ -49,7 +49,7 @@ loop-line-preserved g c = record {
       (c.pass_line-self.ensures ∙ ap (λ (p : Place). passed_line p (length c.in-Some.line.now)) c.take_end.ensures.placed) (c.loop-line.invariant.placed bytes is);
   keeps = c.take_end.ensures.keeps ∙ c.loop-line.invariant.keeps;
   shown = c.take_end.ensures.kept.0 ∙ c.loop-line.invariant.shown;
-  with_begun = c.take_end.ensures.kept.1 ∙ c.loop-line.invariant.with_begun;
+  display = c.take_end.ensures.kept.1 ∙ c.loop-line.invariant.display;
   of = λ accepted options number state front given is.
       let more =
       underway-more _ _ _ accepted options given _ number state front _ c.loop-line.self c.take_end.new.self _ _ c.loop-line.rest.now c.in-Some.line.now c.in-Some.after.now
@@ -73,7 +73,7 @@ returns-in_err-append_cut-clause-taken g c = λ accepted options number state fr
     (c.loop-line.invariant.of accepted options number state front given is) _ c.from_residual-in_err-append_cut.result (p.1 ∙ ap Err p.2)
 
 pub returns-in_err-append_cut-clause-kept : goal.returns-in_err-append_cut-clause-kept
-returns-in_err-append_cut-clause-kept g c = (c.loop-line.invariant.shown, c.loop-line.invariant.with_begun)
+returns-in_err-append_cut-clause-kept g c = (c.loop-line.invariant.shown, c.loop-line.invariant.display)
 
 pub returns-in_err-append_cut-clause-takes : goal.returns-in_err-append_cut-clause-takes
 returns-in_err-append_cut-clause-takes g c = c.loop-line.invariant.takes
@@ -88,7 +88,7 @@ returns-clause-taken g c = λ accepted options number state front given is.
     })
 
 pub returns-clause-kept : goal.returns-clause-kept
-returns-clause-kept g c = (c.loop-line.invariant.shown, c.loop-line.invariant.with_begun)
+returns-clause-kept g c = (c.loop-line.invariant.shown, c.loop-line.invariant.display)
 
 pub returns-clause-takes : goal.returns-clause-takes
 returns-clause-takes g c = c.loop-line.invariant.takes

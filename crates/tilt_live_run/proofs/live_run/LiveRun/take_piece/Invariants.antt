@@ -15,7 +15,7 @@ invariant-loop-line g l = record {
   placed : (bytes : List ℕ) → IsPlaced l.fn.self bytes → IsPassing bytes l.fn.piece l.self.place l.rest;
   keeps : keeps_state l.self.run ≡ keeps_state l.fn.self.run;
   shown : l.self.run.shown ≡ l.fn.self.run.shown;
-  with_begun : l.self.run.with_begun ≡ l.fn.self.run.with_begun;
+  display : l.self.run.display ≡ l.fn.self.run.display;
   of : (accepted : AcceptedParts) (options : RunOptions) (number : ℕ) (state : FeedState) (front : List ℕ) (given : ℕ)
       → IsRunAfter l.fn.self accepted options number state front given
       → IsUnderway g.E.Sink.tells g.E.Sink.written g.E.Sink.faults accepted options given l.fn.err number state front l.fn.piece l.self l.err l.rest;
