@@ -1,0 +1,37 @@
+-- The choice, or the first option that is bad, after those that aren't.
+use Rattle.std.proofs.Common.{◌≡◌, Ok, Err, refl}
+use Rattle.tilt_reading_options.specs.Choice.{choice_said, chosen, marks_said, meaning_said, scales_said, times_said, titles_said}
+use Rattle.tilt_reading_options.specs.Results.{IsChoice, Says}
+use Rattle.tilt_reading_options.specs.Texts.{TextsValue}
+use Rattle.tilt_reading_options.specs.Values.{ScalesValue, TitlesValue, scales_of, titles_of}
+use Rattle.tilt_reading_options.specs.declared.fault.ChoiceFault.{ChoiceFault}
+use Rattle.tilt_reading_options.specs.declared.fault.ChoiceFault.TheVariants.{Bad, OutOfMemory}
+use Rattle.tilt_reading_options.specs.declared.parts.Marks.{Marks}
+use Rattle.tilt_reading_options.specs.declared.parts.Meaning.{Meaning}
+use Rattle.tilt_reading_options.specs.declared.parts.Times.{Times}
+use Rattle.tilt_reading_options.specs.declared.reading_option.ReadingOption.{ReadingOption}
+
+module _ (texts : TextsValue) where
+  pub bad_titles : (fault : ChoiceFault) → Says titles_of (Err fault) (titles_said texts.time texts.name texts.value) → IsChoice (Err fault) (choice_said texts)
+  bad_titles (Bad option) e = rw e refl
+  bad_titles OutOfMemory e = tt
+
+  module _ (titles : TitlesValue) (a : titles_said texts.time texts.name texts.value ≡ Ok titles) where
+    pub bad_times : (option : ReadingOption) → Err option ≡ times_said texts → choice_said texts ≡ Err option
+    bad_times option e = rw (a, ← e) refl
+
+    module _ (times : Times) (b : Ok times ≡ times_said texts) where
+      pub bad_scales : (fault : ChoiceFault) → Says scales_of (Err fault) (scales_said texts.scale) → IsChoice (Err fault) (choice_said texts)
+      bad_scales (Bad option) e = rw (a, ← b, e) refl
+      bad_scales OutOfMemory e = tt
+
+      module _ (scales : ScalesValue) (c : scales_said texts.scale ≡ Ok scales) where
+        pub bad_meaning : (option : ReadingOption) → Err option ≡ meaning_said times.tick texts → choice_said texts ≡ Err option
+        bad_meaning option e = rw (a, ← b, c, ← e) refl
+
+        module _ (meaning : Meaning) (d : Ok meaning ≡ meaning_said times.tick texts) where
+          pub bad_marks : (option : ReadingOption) → Err option ≡ marks_said texts → choice_said texts ≡ Err option
+          bad_marks option e = rw (a, ← b, c, ← d, ← e) refl
+
+          pub all_said : (marks : Marks) → Ok marks ≡ marks_said texts → choice_said texts ≡ Ok (chosen texts titles times scales meaning marks)
+          all_said marks e = rw (a, ← b, c, ← d, ← e) refl

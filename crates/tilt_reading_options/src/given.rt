@@ -1,0 +1,180 @@
+// What each option says, by its text if it is given.
+ghost use Rattle.std.specs.Prelude.{◌≡◌, ◌<◌, IfOk};
+ghost use Rattle.tilt_conventions.specs.Laws.{HoldsATick};
+ghost use Rattle.tilt_reading_options.specs.Choice.{closed_said, convention_said, delimiter_said, mark_beside, mark_said, moments_said};
+ghost use Rattle.tilt_reading_options.specs.Choice.{origin_said, scales_said, tick_said, ties_said, titles_said};
+ghost use Rattle.tilt_reading_options.specs.Results.{Says};
+ghost use Rattle.tilt_reading_options.specs.Texts.{given};
+ghost use Rattle.tilt_reading_options.specs.Values.{scales_of, titles_of};
+
+use crate::duration::{read_duration, read_ticks};
+use crate::fault::ChoiceFault;
+use crate::read_scales::read_scales;
+use crate::reading_option::ReadingOption;
+use crate::scales::Scales;
+use crate::words::{find_closed, find_delimiter, find_mark, find_ties, find_unit};
+use std::alloc::Global;
+use tilt_conventions::{Convention, Ties};
+use tilt_reading_lines::{Moments, Titles};
+use tilt_readings::{Closed, read_date};
+
+// How the columns are titled.
+pub(crate) fn make_titles(
+    alloc: Global,
+    time: &str,
+    name: &Option<String>,
+    value: &Option<String>,
+) -> Result<Titles, ChoiceFault>
+    ensures { Says titles_of result (titles_said time.now (given name.now) (given value.now)) }
+{
+    match name {
+        None => match value {
+            None => Ok(Titles::OfInputs {
+                time: time.as_bytes().to_vec(alloc)?,
+            }),
+            Some(_) => Err(ChoiceFault::Bad {
+                option: ReadingOption::Name,
+            }),
+        },
+        Some(name) => match value {
+            None => Err(ChoiceFault::Bad {
+                option: ReadingOption::Value,
+            }),
+            Some(value) => Ok(Titles::Named {
+                time: time.as_bytes().to_vec(alloc)?,
+                name: name.as_bytes().to_vec(alloc)?,
+                value: value.as_bytes().to_vec(alloc)?,
+            }),
+        },
+    }
+}
+
+// The length of a tick in nanoseconds.
+pub(crate) fn read_tick(text: &Option<String>) -> Result<u64, ReadingOption>
+    ensures value { result ≡ tick_said (given text.now) }
+    ensures some { IfOk result (λ tick. 0 < tick) }
+{
+    match text {
+        Some(text) => read_duration(text.as_bytes()).ok_or(ReadingOption::Tick),
+        None => Err(ReadingOption::Tick),
+    }
+}
+
+// The moment at which the tick 1 starts.
+pub(crate) fn read_origin(text: &Option<String>) -> Result<i128, ReadingOption>
+    ensures { result ≡ origin_said (given text.now) }
+{
+    match text {
+        Some(text) => match read_date(text.as_bytes()) {
+            Ok(moment) => Ok(moment),
+            Err(_) => Err(ReadingOption::Origin),
+        },
+        None => Ok(0),
+    }
+}
+
+// How moments are written.
+pub(crate) fn read_moments(text: &Option<String>) -> Result<Moments, ReadingOption>
+    ensures { result ≡ moments_said (given text.now) }
+{
+    match text {
+        Some(text) => match find_unit(text.as_bytes()) {
+            Some(unit) => Ok(Moments::Numbers { unit }),
+            None => Err(ReadingOption::Unit),
+        },
+        None => Ok(Moments::Dates),
+    }
+}
+
+// The scales of the inputs.
+pub(crate) fn read_scale(alloc: Global, text: &Option<String>) -> Result<Scales, ChoiceFault>
+    ensures { Says scales_of result (scales_said (given text.now)) }
+{
+    match text {
+        Some(text) => match read_scales(alloc, text)? {
+            Some(scales) => Ok(scales),
+            None => Err(ChoiceFault::Bad {
+                option: ReadingOption::Scale,
+            }),
+        },
+        None => Ok(Scales {
+            named: Vec::new(alloc),
+            others: 1,
+        }),
+    }
+}
+
+// How long a reading holds, with ticks of a length.
+pub(crate) fn read_convention(
+    event: bool,
+    tick: u64,
+    age: &Option<String>,
+) -> Result<Convention, ReadingOption>
+    requires { 0 < tick }
+    ensures value { result ≡ convention_said event tick (given age.now) }
+    ensures age { IfOk result (λ convention. HoldsATick convention) }
+{
+    match age {
+        Some(age) if !event => match read_ticks(age.as_bytes(), tick) {
+            Some(age) => Ok(Convention::Hold { max_age: Some(age) }),
+            None => Err(ReadingOption::MaxAge),
+        },
+        Some(_) => Err(ReadingOption::MaxAge),
+        None if event => Ok(Convention::Event),
+        None => Ok(Convention::Hold { max_age: None }),
+    }
+}
+
+// Which end of a tick belongs to it.
+pub(crate) fn read_closed(text: &Option<String>) -> Result<Closed, ReadingOption>
+    ensures { result ≡ closed_said (given text.now) }
+{
+    match text {
+        Some(text) => find_closed(text.as_bytes()).ok_or(ReadingOption::Closed),
+        None => Ok(Closed::Left),
+    }
+}
+
+// Which of several readings in one tick counts.
+pub(crate) fn read_ties(text: &Option<String>) -> Result<Ties, ReadingOption>
+    ensures { result ≡ ties_said (given text.now) }
+{
+    match text {
+        Some(text) => find_ties(text.as_bytes()).ok_or(ReadingOption::Ties),
+        None => Ok(Ties::Refuse),
+    }
+}
+
+// The byte between fields.
+pub(crate) fn read_delimiter(text: &Option<String>) -> Result<u8, ReadingOption>
+    ensures { result ≡ delimiter_said (given text.now) }
+{
+    match text {
+        Some(text) => find_delimiter(text.as_bytes()).ok_or(ReadingOption::Delimiter),
+        None => Ok(b','),
+    }
+}
+
+// The mark before the fraction of a number, with this byte between fields.
+pub(crate) fn read_mark(delimiter: u8, text: &Option<String>) -> Result<u8, ReadingOption>
+    ensures { result ≡ mark_said delimiter (given text.now) }
+{
+    match text {
+        Some(text) => match find_mark(text.as_bytes()) {
+            Some(mark) => mark_beside(delimiter, mark),
+            None => Err(ReadingOption::Decimal),
+        },
+        None => mark_beside(delimiter, b'.'),
+    }
+}
+
+// The mark, if it isn't the byte between fields.
+fn mark_beside(delimiter: u8, mark: u8) -> Result<u8, ReadingOption>
+    ensures { result ≡ mark_beside delimiter mark }
+{
+    if mark == delimiter {
+        Err(ReadingOption::Decimal)
+    } else {
+        Ok(mark)
+    }
+}

@@ -1,0 +1,27 @@
+//! The options of a feed of readings: from the texts of a command line to how readings are written and what they mean.
+//!
+//! What comes in is the texts of the options, as they were given. What goes out is a choice, or the first option that is bad or missing.
+//! Of a choice, and of the names of a query's inputs, come the form of the lines and the options of each input.
+//!
+//! `specs/Choice` says in `choice_said` what the texts say, option by option. `specs/Form` says in `IsFormOf` what the form and the options
+//! are. A name in the scales that is no input is a fault: `missing_input` is the first one. Nothing here reads or writes.
+#![tactic(auto)]
+
+mod choice;
+mod duration;
+mod fault;
+mod form;
+mod given;
+mod parts;
+mod read_scales;
+mod reading_option;
+mod scale;
+mod scales;
+mod texts;
+mod whole;
+mod words;
+
+pub use choice::{ReadingChoice, read_choice};
+pub use fault::{ChoiceFault, FormFault};
+pub use reading_option::ReadingOption;
+pub use texts::ReadingTexts;

@@ -1,0 +1,114 @@
+// What the options of one kind say.
+ghost use Rattle.std.specs.Prelude.{◌≡◌, ◌<◌, IfOk};
+ghost use Rattle.tilt_conventions.specs.Laws.{HoldsATick};
+ghost use Rattle.tilt_reading_options.specs.Choice.{marks_said, meaning_said, nulls_said, scales_said, times_said, titles_said};
+ghost use Rattle.tilt_reading_options.specs.Results.{Says};
+ghost use Rattle.tilt_reading_options.specs.Texts.{given};
+ghost use Rattle.tilt_reading_options.specs.Values.{scales_of, titles_of};
+
+use crate::fault::ChoiceFault;
+use crate::given::{
+    make_titles, read_closed, read_convention, read_delimiter, read_mark, read_moments,
+    read_origin, read_scale, read_tick, read_ties,
+};
+use crate::reading_option::ReadingOption;
+use crate::scales::Scales;
+use crate::texts::ReadingTexts;
+use std::alloc::{AllocError as OutOfMemory, Global};
+use tilt_conventions::{Convention, Ties};
+use tilt_reading_lines::{Moments, Titles};
+use tilt_readings::Closed;
+
+// How times are written, and what a clock needs of them.
+#[derive(Clone, Copy)]
+pub(crate) struct Times {
+    pub(crate) tick: u64,
+    pub(crate) origin: i128,
+    pub(crate) moments: Moments,
+}
+
+// What readings mean, and which end belongs to a tick.
+#[derive(Clone, Copy)]
+pub(crate) struct Meaning {
+    pub(crate) convention: Convention,
+    pub(crate) closed: Closed,
+    pub(crate) ties: Ties,
+}
+
+// The byte between fields, and the mark before a fraction.
+#[derive(Clone, Copy)]
+pub(crate) struct Marks {
+    pub(crate) delimiter: u8,
+    pub(crate) mark: u8,
+}
+
+// How the columns are titled.
+pub(crate) fn read_titles(alloc: Global, texts: &ReadingTexts) -> Result<Titles, ChoiceFault>
+    ensures { Says titles_of result (titles_said texts.now.time texts.now.name texts.now.value) }
+{
+    make_titles(alloc, &texts.time, &texts.name, &texts.value)
+}
+
+// What the options of times say.
+pub(crate) fn read_times(texts: &ReadingTexts) -> Result<Times, ReadingOption>
+    ensures value { result ≡ times_said texts.now }
+    ensures some { IfOk result (λ times. 0 < times.tick) }
+{
+    let tick = read_tick(&texts.tick)?;
+    let origin = read_origin(&texts.origin)?;
+    let moments = read_moments(&texts.unit)?;
+    Ok(Times {
+        tick,
+        origin,
+        moments,
+    })
+}
+
+// The scales of the inputs.
+pub(crate) fn read_scales_of(alloc: Global, texts: &ReadingTexts) -> Result<Scales, ChoiceFault>
+    ensures { Says scales_of result (scales_said texts.now.scale) }
+{
+    read_scale(alloc, &texts.scale)
+}
+
+// What the options of the meaning say, with ticks of a length.
+pub(crate) fn read_meaning(texts: &ReadingTexts, tick: u64) -> Result<Meaning, ReadingOption>
+    requires { 0 < tick }
+    ensures value { result ≡ meaning_said tick texts.now }
+    ensures age { IfOk result (λ meaning. HoldsATick meaning.convention) }
+{
+    let convention = read_convention(texts.event, tick, &texts.max_age)?;
+    let closed = read_closed(&texts.closed)?;
+    let ties = read_ties(&texts.ties)?;
+    Ok(Meaning {
+        convention,
+        closed,
+        ties,
+    })
+}
+
+// What the options of the bytes of a line say.
+pub(crate) fn read_marks(texts: &ReadingTexts) -> Result<Marks, ReadingOption>
+    ensures { result ≡ marks_said texts.now }
+{
+    let delimiter = read_delimiter(&texts.delimiter)?;
+    let mark = read_mark(delimiter, &texts.decimal)?;
+    Ok(Marks { delimiter, mark })
+}
+
+// The text of the texts without a value.
+pub(crate) fn copy_nulls(alloc: Global, texts: &ReadingTexts) -> Result<Option<String>, OutOfMemory>
+    ensures { IfOk result (λ nulls. given nulls ≡ texts.now.null) }
+{
+    match &texts.null {
+        Some(text) => Ok(Some(String::from_str(alloc, text)?)),
+        None => Ok(None),
+    }
+}
+
+// Whether a text without a value is skipped.
+pub(crate) fn skips_empty(texts: &ReadingTexts) -> bool
+    ensures { result ≡ texts.now.skips_empty }
+{
+    texts.skips_empty
+}
