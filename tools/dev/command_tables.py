@@ -24,7 +24,28 @@ TOP = next(folder for folder in pathlib.Path(__file__).resolve().parents if (fol
 VALUES = {"Flag": "", "Text": "FILE", "Times": "TIME,TIME,..", "RisingTimes": "TIME,TIME,..", "Numbers": "PART,PART,..", "Cuts": "CUTS"}
 VALUES["Ticks"] = "N"
 # Of an option whose text is no file.
-NAMED = {"--folder": "FOLDER"}
+NAMED = {
+    "--folder": "FOLDER",
+    "--time": "COL",
+    "--name": "COL",
+    "--value": "COL",
+    "--tick": "DURATION",
+    "--origin": "DATE",
+    "--unit": "UNIT",
+    "--scale": "SCALES",
+    "--max-age": "DURATION",
+    "--closed": "SIDE",
+    "--ties": "RULE",
+    "--null": "TEXTS",
+    "--delimiter": "C",
+    "--decimal": "C",
+}
+
+# The first options that only a call of `tilt-live` on rows has, and that only one on readings has; those that the latter must have; and how
+# many options are on a line of the synopsis at most.
+ROWS_AND_READINGS = ("--lateness", "--time")
+REQUIRED = ("--time", "--tick")
+LINE_OF_OPTIONS = 12
 
 BIND = "NAME=FILE .."
 
@@ -280,11 +301,18 @@ def live_options(found: Tables) -> str:
 
 
 def live_synopsis(found: Tables) -> str:
-    """The part of docs/tilt-live.1 between its headings SYNOPSIS and DESCRIPTION."""
-    lines = [".B tilt-live", ".I QUERY"]
-    for option in found.live:
-        lines += roff_option(option, found.live, True)
-    return "\n".join([*lines, ""])
+    """The part of docs/tilt-live.1 between its headings SYNOPSIS and DESCRIPTION: a call on rows, and one on readings."""
+    options = list(found.live)
+    rows, readings = map(options.index, ROWS_AND_READINGS)
+    calls = []
+    for own in options[rows:readings], options[readings:]:
+        lines = [".B tilt-live", ".I QUERY"]
+        for count, option in enumerate(options[:rows] + own):
+            # A new line in the middle of many options.
+            lines += [".br"] if count == LINE_OF_OPTIONS else []
+            lines += roff_option(option, found.live, option not in REQUIRED)
+        calls.append("\n".join(lines) + "\n")
+    return ".br\n".join(calls)
 
 
 def completed_live(found: Tables) -> str:

@@ -81,8 +81,8 @@ module _ {K : Type 0} (shelf : ShelfChange) (tells : Type 0) (old new : Transcri
     (err err_then : K) (begun : IsBegun shelf command) where
   -- the feed was served until something halted it
   pub run-halted : (why : Halt)
-      → ((start : Start) → StartsAt command.options begun.core begun.from start
-      → HasServed begun.core command.options start tells old new err_tells err_written err_faults err err_then (Err why))
+      → ((start : Start) → StartsAt begun.options begun.core begun.from start
+      → HasServed begun.core begun.options start tells old new err_tells err_written err_faults err err_then (Err why))
       → (why ≡ halt.BadLine → new.held_back ≡ 0) → HasRun shelf tells old new err_tells err_written err_faults command err err_then (Err (Halted why))
   run-halted why served handed_on = record {
     begun = begun;
@@ -92,8 +92,8 @@ module _ {K : Type 0} (shelf : ShelfChange) (tells : Type 0) (old new : Transcri
 
   -- it was served to its end by this run
   module _ (run : LiveRun) (accepted : AcceptedParts) (core_is : accepted.core ≡ begun.core) (handed_on : new.held_back ≡ 0)
-      (served : (start : Start) → StartsAt command.options begun.core begun.from start
-      → HasEnded begun.core command.options start tells old new err_tells err_written err_faults err err_then (IsRunAt run accepted command.options) (Ok tt)) where
+      (served : (start : Start) → StartsAt begun.options begun.core begun.from start
+      → HasEnded begun.core begun.options start tells old new err_tells err_written err_faults err err_then (IsRunAt run accepted begun.options) (Ok tt)) where
     served-whole : IsServed shelf tells old new err_tells err_written err_faults command (λ _ _. ⊤) (Ok tt) err err_then
     served-whole = record {
       begun = begun;
@@ -109,16 +109,16 @@ module _ {K : Type 0} (shelf : ShelfChange) (tells : Type 0) (old new : Transcri
     module _ (is_accepted : IsAccepted begun.query) (core_of_is : begun.core ≡ core_of begun.query) (written : ℕ)
         (counted : tells → written ≡ added_count (written_before begun.from) (added_count 0 (length new.written) - added_count 0 (length old.written)))
         (name : List ℕ) (save : command.save ≡ Some name) where
-      text-after : (text bytes : List ℕ) → IsTextOfRun run begun.query written text → IsRunAt run accepted command.options bytes
-          → IsTextAfter command.options begun.core tells old new begun.query begun.from text bytes
+      text-after : (text bytes : List ℕ) → IsTextOfRun run begun.query written text → IsRunAt run accepted begun.options bytes
+          → IsTextAfter begun.options begun.core tells old new begun.query begun.from text bytes
       text-after text bytes of at =
-          let is = of accepted command.options bytes at in
-          let left = state_left command.options begun.core begun.query (ended bytes) written in
-          let run_is = subst (λ (core : CoreParts). IsStateOf core (state_left command.options core begun.query (ended bytes) written)) core_is is.1 in
+          let is = of accepted begun.options bytes at in
+          let left = state_left begun.options begun.core begun.query (ended bytes) written in
+          let run_is = subst (λ (core : CoreParts). IsStateOf core (state_left begun.options core begun.query (ended bytes) written)) core_is is.1 in
           record {
             written = written;
             counted = counted;
-            is_text = subst (λ (core : CoreParts). text ≡ spelled (state_left command.options core begun.query (ended bytes) written)) core_is is.0;
+            is_text = subst (λ (core : CoreParts). text ≡ spelled (state_left begun.options core begun.query (ended bytes) written)) core_is is.0;
             valid = record { query = is_accepted; run = subst (λ (core : CoreParts). IsStateOf core left) core_of_is run_is };
           }
 

@@ -78,7 +78,8 @@ module _ (core : CoreParts) (options : RunOptions) (start : Start) where
   pub all-stopped : (bytes : List ℕ) → has_stop core options start bytes ≡ true → all_reports core options start bytes ≡ line_reports core options start bytes
   all-stopped bytes e = rw (e, append-nil (line_reports core options start bytes)) refl
 
-  pub all-ended : (bytes : List ℕ) → has_stop core options start bytes ≡ false → all_reports core options start bytes ≡ line_reports core options start bytes ++ end_report (start.before ++ bytes)
+  pub all-ended : (bytes : List ℕ) → has_stop core options start bytes ≡ false
+      → all_reports core options start bytes ≡ line_reports core options start bytes ++ end_report options (start.before ++ bytes)
   all-ended bytes e = rw e refl
 
   -- all reports of bytes and more, and whether they end badly, if none of the lines before stops the run
@@ -87,7 +88,7 @@ module _ (core : CoreParts) (options : RunOptions) (start : Start) where
   all-more bytes more none =
       rw (reports-more bytes more none, stop-more bytes more none, ← append_assoc start.before bytes more)
       (append_assoc (line_reports core options start bytes) (reported options core (start.before ++ bytes) more)
-      (if is_stopped options core (start.before ++ bytes) more then [] else end_report ((start.before ++ bytes) ++ more)))
+      (if is_stopped options core (start.before ++ bytes) more then [] else end_report options ((start.before ++ bytes) ++ more)))
 
   pub badly-more : (bytes more : List ℕ) → has_stop core options start bytes ≡ false
       → ends_badly core options start (bytes ++ more) ≡ ends_badly core options (start_after start bytes) more
@@ -199,7 +200,7 @@ module _ (core : CoreParts) (options : RunOptions) (start : Start) where
         -- the feed had ended, and this is so of all its bytes
         pub served-ended : (err_then : K) (Is : List ℕ → Type 0) (result : Result (Unit {0}) Halt) (last : Result (Unit {0}) Stop) → (tells → HasRead mid new room (Ok 0))
             → MatchResult last (λ _. result ≡ Ok tt) (λ why. result ≡ Err (halt_of why))
-            → Reported err_tells err_written err_faults err_mid err_then (end_report (start.before ++ bytes))
+            → Reported err_tells err_written err_faults err_mid err_then (end_report options (start.before ++ bytes))
             → MatchResult last (λ _. (options.strict && is_unfinished (start.before ++ bytes)) ≡ false)
             (λ why. (why ≡ stop.BadLine) × ((options.strict && is_unfinished (start.before ++ bytes)) ≡ true))
             → Is (start.before ++ bytes)
@@ -244,7 +245,7 @@ module _ (core : CoreParts) (options : RunOptions) (start : Start) where
             };
             reported = λ _. rw (all-ended bytes serving.no_stop) (reported-then err_tells err_written err_faults err err_mid err_then _ _ serving.reported told);
             reported_unread = λ e. absurd (cc e);
-            reported_front = rw (all-ended bytes serving.no_stop, ← append-nil (line_reports core options start bytes ++ end_report (start.before ++ bytes)))
+            reported_front = rw (all-ended bytes serving.no_stop, ← append-nil (line_reports core options start bytes ++ end_report options (start.before ++ bytes)))
                 (front-whole err_tells err_written err_faults err err_then _ [] (reported-then err_tells err_written err_faults err err_mid err_then _ _ serving.reported told));
             ended = λ _. tt;
             well = tt;
@@ -302,7 +303,7 @@ module _ (core : CoreParts) (options : RunOptions) (start : Start) where
             reported_unread = λ e. absurd (halt-read why e);
             reported_front =
                 front-more err_tells err_written err_faults err err_then (line_reports core options start (bytes ++ take n room))
-                (if has_stop core options start (bytes ++ take n room) then [] else end_report (start.before ++ (bytes ++ take n room)))
+                (if has_stop core options start (bytes ++ take n room) then [] else end_report options (start.before ++ (bytes ++ take n room)))
                 (rw (reports-more bytes (take n room) serving.no_stop) (front-behind err_tells err_written err_faults err err_mid err_then _ _ serving.reported reports.front));
             ended = λ _. tt;
             well = tt;

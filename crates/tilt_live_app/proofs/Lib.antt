@@ -3,5 +3,7 @@ pub mod Ending
 pub mod Feeding
 pub mod Flushing
 pub mod Living
+mod OfRows
 pub mod OneCommand
+mod Settings
 pub mod States

@@ -5,13 +5,16 @@ use Rattle.tilt_checkpoint.specs.Valid.{IsAccepted}
 use Rattle.tilt_compiler.specs.Accepted.{AcceptedParts, IsAccepted as IsCompiled}
 use Rattle.tilt_core.specs.Core.{CoreParts}
 use Rattle.tilt_live_app.specs.Arguments.{CommandValue}
-use Rattle.tilt_live_app.specs.Begun.{HasTaken, IsUnbegun, no_memory, refused, state_refused, state_unread, unread}
+use Rattle.tilt_live_app.specs.Asked.{IsUnchosen}
+use Rattle.tilt_live_app.specs.BeginReport.{BeginReport, no_input, shared}
+use Rattle.tilt_live_app.specs.Begun.{HasTaken, IsUnbegun, no_memory, refused, state_refused, state_unread, unread, unscaled}
 use Rattle.tilt_live_app.specs.Change.{shelf_change}
 use Rattle.tilt_live_app.specs.StateFile.{RefusesState}
 use Rattle.tilt_load.specs.Load.{IsLoadFault}
 use Rattle.tilt_load.specs.QueryFile.{RefusesQuery}
 use Rattle.tilt_outside.proofs.Puts.{rose_from}
 use Rattle.tilt_outside.specs.Reads.{OnlyReads}
+use Rattle.tilt_reading_options.specs.Values.{ChoiceValue}
 use Rattle.tilt_report.specs.Report.{Report, out_of_memory, read_fault, refusal, save_fault, usage, write_fault}
 use Rattle.tilt_syntax.specs.Query.{IsQuery}
 use Rattle.tilt_syntax.specs.Tree.{StatementTree}
@@ -22,7 +25,7 @@ module _ {S : Type 0} (tells : Type 0) (files : S → List ℕ → List ℕ) (re
   -- a query that wasn't loaded
   pub load-unbegun : (old new : S) (report : Report)
       → IsLoadFault tells (RefusesQuery command.query (files old command.query)) (λ which. which ≡ command.query) (read_faults old) (read_faults new) report
-      → IsUnbegun (shelf_change tells files read_faults save_faults old new) command report
+      → IsUnbegun (shelf_change tells files read_faults save_faults old new) command (shared report)
   load-unbegun old new usage fault = absurd fault
   load-unbegun old new (refusal why) fault = refused fault
   load-unbegun old new (read_fault name) fault = rw fault.1 (unread fault.0)
@@ -30,15 +33,22 @@ module _ {S : Type 0} (tells : Type 0) (files : S → List ℕ → List ℕ) (re
   load-unbegun old new (save_fault name) fault = absurd fault
   load-unbegun old new out_of_memory fault = no_memory
 
+  -- scales that aren't those of the query's inputs, after the query was loaded
+  pub scales-unbegun : (old new : S) (choice : ChoiceValue) (query : List StatementTree) (core : CoreParts) → command.readings ≡ Some choice
+      → HasTaken tells (files old command.query) query core → (report : BeginReport) → IsUnchosen choice core.inputs report
+      → IsUnbegun (shelf_change tells files read_faults save_faults old new) command report
+  scales-unbegun old new choice query core is taken (no_input name) missing = unscaled choice query core name is taken missing
+  scales-unbegun old new choice query core is taken (shared report) none = rw none no_memory
+
   -- a state that wasn't loaded, after the query was
   pub state-unbegun : (old mid new : S) (file : List ℕ) (query : List StatementTree) (core : CoreParts) → OnlyReads files read_faults save_faults takes old mid
       → command.resume ≡ Some file → HasTaken tells (files old command.query) query core → (report : Report)
-      → IsLoadFault tells (RefusesState query command.options.watermarks file (files mid file)) (λ which. which ≡ file) (read_faults mid) (read_faults new) report
-      → IsUnbegun (shelf_change tells files read_faults save_faults old new) command report
+      → IsLoadFault tells (RefusesState query command.asked.watermarks file (files mid file)) (λ which. which ≡ file) (read_faults mid) (read_faults new) report
+      → IsUnbegun (shelf_change tells files read_faults save_faults old new) command (shared report)
   state-unbegun old mid new file query core reads is taken usage fault = absurd fault
   state-unbegun old mid new file query core reads is taken (refusal why) fault =
       let same = ap (λ (held : List ℕ → List ℕ). held file) reads.same_files in
-      state_refused file query core is taken (λ t. subst (λ (bytes : List ℕ). RefusesState query command.options.watermarks file bytes why) same (fault t))
+      state_refused file query core is taken (λ t. subst (λ (bytes : List ℕ). RefusesState query command.asked.watermarks file bytes why) same (fault t))
   state-unbegun old mid new file query core reads is taken (read_fault name) fault =
       rw fault.1 (state_unread file is (rose_from (read_faults old) (read_faults mid) (read_faults new) reads.no_fewer_read_faults fault.0))
   state-unbegun old mid new file query core reads is taken write_fault fault = absurd fault

@@ -1,14 +1,19 @@
 -- Arguments are one command at most.
-use Rattle.std.proofs.Common.{◌≡◌, ◌==◌, ℕ, false, List, [], ◌∷◌, length, codes, String, string_bytes, sym, ap, ◌∙◌, subst}
+use Rattle.std.proofs.Common.{◌≡◌, ◌==◌, ℕ, false, List, [], ◌∷◌, Option, None, Some, Ok, length, codes, String, string_bytes, refl, sym, ap, ◌∙◌, subst}
 use Rattle.std.proofs.lemmas.Bool.{false≢true}
 use Rattle.std.specs.declared.alloc.Global.{Global}
 use Rattle.tilt_cli.specs.Arguments.{ArgumentsValue, AreArguments, no_arguments}
 use Rattle.tilt_cli.specs.Binding.{binding_of, bindings_of}
 use Rattle.tilt_cli.specs.Command.{texts}
-use Rattle.tilt_cli.specs.Options.{is_set, set_to, text_of}
+use Rattle.tilt_cli.specs.Options.{is_set}
 use Rattle.tilt_cli.specs.declared.bind.Bind.{Bind}
 use Rattle.tilt_cli.proofs.Determined.{same_arguments}
-use Rattle.tilt_live_app.specs.Arguments.{CommandValue, IsLiveCommand, chosen, live_options, options_fit, run_options, task_asked}
+use Rattle.tilt_live_app.specs.Arguments.{CommandValue, IsLiveCommand, asked_options, chosen, task_asked}
+use Rattle.tilt_live_app.specs.LiveOptions.{live_options, options_fit}
+use Rattle.tilt_live_app.specs.Readings.{AreSaid, reading_texts, text_at}
+use Rattle.tilt_reading_options.specs.Choice.{choice_said}
+use Rattle.tilt_reading_options.specs.Texts.{TextsValue}
+use Rattle.tilt_reading_options.specs.Values.{ChoiceValue}
 
 -- the text of the first argument, and the others
 pub front_texts : (words : List (String Global)) (first : String Global) (rest : List (String Global)) (query : List ℕ) → words ≡ first ∷ rest
@@ -19,6 +24,15 @@ front_texts words first rest query front same = ap texts front ∙ ap (λ (q : L
 pub some_binds : (binds : List Bind) → (length binds == 0) ≡ false → ¬ (bindings_of binds ≡ [])
 some_binds [] some none = false≢true (sym some)
 some_binds (b ∷ binds) some none = let same : binding_of b ∷ bindings_of binds ≡ [] = none in cc
+
+-- texts say one choice at most
+said_once : (texts : Option TextsValue) (choice other : Option ChoiceValue) → AreSaid texts choice → AreSaid texts other → other ≡ choice
+said_once None None None said also = refl
+said_once None None (Some other) said also = absurd also
+said_once None (Some choice) other said also = absurd said
+said_once (Some texts) None other said also = absurd said
+said_once (Some texts) (Some choice) None said also = absurd also
+said_once (Some texts) (Some choice) (Some other) said also = let same : Ok other ≡ Ok choice = sym also ∙ said in cc
 
 module _ (words : List (List ℕ)) (query : List ℕ) (rest : List (List ℕ)) (front : words ≡ query ∷ rest) where
   -- what the arguments after the file give
@@ -40,18 +54,35 @@ module _ (words : List (List ℕ)) (query : List ℕ) (rest : List (List ℕ)) (
     pub with_unfit : options_fit given.settings ≡ false → (command : CommandValue) → ¬ (IsLiveCommand words command)
     with_unfit unfit command is = false≢true (sym unfit ∙ ap (λ (g : ArgumentsValue). options_fit g.settings) (sym (same_given command is)) ∙ is.fit)
 
+    -- if the options of readings say nothing, neither
+    pub with_unsaid : ((readings : Option ChoiceValue) → ¬ (AreSaid (reading_texts given.settings) readings)) → (command : CommandValue) → ¬ (IsLiveCommand words command)
+    with_unsaid unsaid command is =
+        unsaid command.readings (subst (λ (g : ArgumentsValue). AreSaid (reading_texts g.settings) command.readings) (same_given command is) is.readings_are)
+
     -- they are no other command
-    pub only_said : (command : CommandValue) → command.query ≡ query → command.plain ≡ is_set (codes "--plain") given.settings
-        → command.options ≡ run_options given.settings → command.resume ≡ text_of (set_to (codes "--resume") given.settings)
-        → command.save ≡ text_of (set_to (codes "--save") given.settings)
-        → command.folder ≡ chosen (task_asked given.settings) (text_of (set_to (codes "--folder") given.settings)) → (other : CommandValue) → IsLiveCommand words other → other ≡ command
-    only_said command queries plains options resumes saves folders other is =
+    pub only_said : (command : CommandValue) → command.query ≡ query → command.plain ≡ is_set (codes "--plain") given.settings → command.dated ≡ is_set (codes "--times") given.settings
+        → command.asked ≡ asked_options given.settings → AreSaid (reading_texts given.settings) command.readings → command.resume ≡ text_at (codes "--resume") given.settings
+        → command.save ≡ text_at (codes "--save") given.settings
+        → command.folder ≡ chosen (task_asked given.settings) (text_at (codes "--folder") given.settings) → (other : CommandValue) → IsLiveCommand words other → other ≡ command
+    only_said command queries plains dateds asked readings resumes saves folders other is =
         let words_same : query ∷ rest ≡ other.query ∷ is.rest = sym front ∙ is.words_are in
         let same = same_given other is in
         let query_same : other.query ≡ command.query = cc in
         let plain_same = is.plain_is ∙ ap (λ (g : ArgumentsValue). is_set (codes "--plain") g.settings) same ∙ sym plains in
-        let options_same = is.options_are ∙ ap (λ (g : ArgumentsValue). run_options g.settings) same ∙ sym options in
-        let resume_same = is.resume_is ∙ ap (λ (g : ArgumentsValue). text_of (set_to (codes "--resume") g.settings)) same ∙ sym resumes in
-        let save_same = is.save_is ∙ ap (λ (g : ArgumentsValue). text_of (set_to (codes "--save") g.settings)) same ∙ sym saves in
-        let folder_same = is.folder_is ∙ ap (λ (g : ArgumentsValue). chosen (task_asked g.settings) (text_of (set_to (codes "--folder") g.settings))) same ∙ sym folders in
-        λ i. record { query = query_same i; plain = plain_same i; options = options_same i; resume = resume_same i; save = save_same i; folder = folder_same i }
+        let dated_same = is.dated_is ∙ ap (λ (g : ArgumentsValue). is_set (codes "--times") g.settings) same ∙ sym dateds in
+        let asked_same = is.asked_is ∙ ap (λ (g : ArgumentsValue). asked_options g.settings) same ∙ sym asked in
+        let readings_same = said_once (reading_texts given.settings) command.readings other.readings readings
+        (subst (λ (g : ArgumentsValue). AreSaid (reading_texts g.settings) other.readings) same is.readings_are) in
+        let resume_same = is.resume_is ∙ ap (λ (g : ArgumentsValue). text_at (codes "--resume") g.settings) same ∙ sym resumes in
+        let save_same = is.save_is ∙ ap (λ (g : ArgumentsValue). text_at (codes "--save") g.settings) same ∙ sym saves in
+        let folder_same = is.folder_is ∙ ap (λ (g : ArgumentsValue). chosen (task_asked g.settings) (text_at (codes "--folder") g.settings)) same ∙ sym folders in
+        λ i. record {
+          query = query_same i;
+          plain = plain_same i;
+          dated = dated_same i;
+          asked = asked_same i;
+          readings = readings_same i;
+          resume = resume_same i;
+          save = save_same i;
+          folder = folder_same i;
+        }

@@ -1,37 +1,35 @@
 -- The arguments of the program: the file of the query, and options, each of them at most once (our own rule).
-use Rattle.std.specs.Prelude.{◌≡◌, ◌||◌, ◌&&◌, not, ℕ, Bool, true, false, List, [], ◌∷◌, Option, None, Some, codes, option_map, string_bytes}
+use Rattle.std.specs.Prelude.{◌≡◌, ℕ, min, Bool, true, false, List, [], ◌∷◌, Option, None, Some, codes, option_map, string_bytes}
 use Rattle.tilt_cli.specs.Arguments.{AreArguments, ArgumentsValue, no_arguments}
 use Rattle.tilt_cli.specs.Command.{IsFile}
-use Rattle.tilt_cli.specs.Options.{SettingValue, is_set, set_to, text_of, ticks_of}
-use Rattle.tilt_cli.specs.Tables.{OptionEntry}
-use Rattle.tilt_cli.specs.declared.option_table.Shape.TheVariants.{Flag, Text, Ticks}
+use Rattle.tilt_cli.specs.Options.{SettingValue, is_set, set_to, ticks_of}
+use Rattle.tilt_live_app.specs.LiveOptions.{live_options, options_fit}
+use Rattle.tilt_live_app.specs.Readings.{AreSaid, reading_texts, text_at}
 use Rattle.tilt_live_app.specs.declared.arguments.FolderChoice.{FolderChoice}
 use Rattle.tilt_live_app.specs.declared.arguments.LiveCommand.{LiveCommand}
 use Rattle.tilt_live_app.specs.declared.arguments.Task.{Task}
 use Rattle.tilt_live_app.specs.declared.arguments.Task.TheVariants.{Position, Serve}
-use Rattle.tilt_live_run.specs.declared.run_options.RunOptions.{RunOptions}
+use Rattle.tilt_live_folder.specs.declared.row_options.RowOptions.{RowOptions}
+use Rattle.tilt_live_run.specs.declared.display.Display.{Display}
+use Rattle.tilt_reading_options.specs.Values.{ChoiceValue}
+use Rattle.tilt_row_text.specs.declared.times.Times.TheVariants.{Ticks}
 
--- all options
-unfoldable pub live_options : List OptionEntry
-live_options =
-    record { word = codes "--begun"; shape = Flag }
-    ∷ record { word = codes "--strict"; shape = Flag }
-    ∷ record { word = codes "--plain"; shape = Flag }
-    ∷ record { word = codes "--lateness"; shape = Ticks }
-    ∷ record { word = codes "--idle"; shape = Ticks }
-    ∷ record { word = codes "--ahead"; shape = Ticks }
-    ∷ record { word = codes "--resume"; shape = Text }
-    ∷ record { word = codes "--save"; shape = Text }
-    ∷ record { word = codes "--folder"; shape = Text }
-    ∷ record { word = codes "--every"; shape = Ticks }
-    ∷ record { word = codes "--from"; shape = Ticks }
-    ∷ record { word = codes "--position"; shape = Flag }
-    ∷ []
+-- a number, or another one if there is none
+abbrev pub number_or : ℕ → Option ℕ → ℕ
+number_or other None = other
+number_or other (Some n) = n
 
--- what the options ask of the run
-abbrev pub run_options : List SettingValue → RunOptions
-run_options settings = record {
+-- what they ask to be written, and how: rows of ticks, and values with so many decimals
+abbrev pub display_asked : List SettingValue → Display
+display_asked settings = record {
   with_begun = is_set (codes "--begun") settings;
+  style = record { times = Ticks; decimals = min (number_or 0 (ticks_of (set_to (codes "--decimals") settings))) 19 };
+}
+
+-- what the options ask of a run whose feed has rows
+abbrev pub asked_options : List SettingValue → RowOptions
+asked_options settings = record {
+  display = display_asked settings;
   strict = is_set (codes "--strict") settings;
   watermarks = record {
     idle = ticks_of (set_to (codes "--idle") settings);
@@ -39,11 +37,6 @@ run_options settings = record {
     lateness = ticks_of (set_to (codes "--lateness") settings);
   };
 }
-
--- a number, or another one if there is none
-abbrev pub number_or : ℕ → Option ℕ → ℕ
-number_or other None = other
-number_or other (Some n) = n
 
 -- what is done with a folder. Its position is printed, if that is asked for. Otherwise a feed is served, which is read from its first byte,
 -- and committed after each line, if the options don't say otherwise
@@ -56,17 +49,6 @@ abbrev pub task_asked : List SettingValue → Task
 task_asked settings =
     task_of (is_set (codes "--position") settings) (ticks_of (set_to (codes "--from") settings)) (ticks_of (set_to (codes "--every") settings))
 
--- whether options fit together, if there is a folder or not, its position is asked for, a feed is planned, and there are files of states
-abbrev pub fit_together : Bool → Bool → Bool → Bool → Bool
-fit_together true position planned stated = not stated && not (position && planned)
-fit_together false position planned stated = not (position || planned)
-
--- whether the options of folders and states fit together
-abbrev pub options_fit : List SettingValue → Bool
-options_fit settings =
-    fit_together (is_set (codes "--folder") settings) (is_set (codes "--position") settings)
-    (is_set (codes "--every") settings || is_set (codes "--from") settings) (is_set (codes "--resume") settings || is_set (codes "--save") settings)
-
 -- a folder, and what is done with it
 pub record FolderValue : Type 0 where
   pub name : List ℕ
@@ -76,15 +58,24 @@ pub record FolderValue : Type 0 where
 abbrev pub chosen : Task → Option (List ℕ) → Option FolderValue
 chosen task name = option_map (λ bytes. record { name = bytes; task = task }) name
 
--- the file of the query, whether no loops are merged, and what is asked of the run. If there are such files: that of the state that the run
--- goes on from, and that in which its state is saved. If there is one: the folder into which the feed is served
+-- The file of the query; whether no loops are merged; whether times are written as dates; what is asked of the run. What the options of
+-- readings say, if the feed has readings. If there are such files: that of the state that the run goes on from, and that in which its state
+-- is saved. If there is one: the folder into which the feed is served
 pub record CommandValue : Type 0 where
   pub query : List ℕ
   pub plain : Bool
-  pub options : RunOptions
+  pub dated : Bool
+  pub asked : RowOptions
+  pub readings : Option ChoiceValue
   pub resume : Option (List ℕ)
   pub save : Option (List ℕ)
   pub folder : Option FolderValue
+
+-- a state or a folder is chosen only for a feed of rows
+pub record AreOfRows (command : CommandValue) : Type 0 where
+  pub resume : (file : List ℕ) → command.resume ≡ Some file → command.readings ≡ None
+  pub save : (file : List ℕ) → command.save ≡ Some file → command.readings ≡ None
+  pub folder : (choice : FolderValue) → command.folder ≡ Some choice → command.readings ≡ None
 
 -- the arguments are this command: the file of its query, and then options that fit together, in any order, and no binds
 pub record IsLiveCommand (words : List (List ℕ)) (command : CommandValue) : Type 0 where
@@ -96,10 +87,12 @@ pub record IsLiveCommand (words : List (List ℕ)) (command : CommandValue) : Ty
   pub no_binds : given.binds ≡ []
   pub fit : options_fit given.settings ≡ true
   pub plain_is : command.plain ≡ is_set (codes "--plain") given.settings
-  pub options_are : command.options ≡ run_options given.settings
-  pub resume_is : command.resume ≡ text_of (set_to (codes "--resume") given.settings)
-  pub save_is : command.save ≡ text_of (set_to (codes "--save") given.settings)
-  pub folder_is : command.folder ≡ chosen (task_asked given.settings) (text_of (set_to (codes "--folder") given.settings))
+  pub dated_is : command.dated ≡ is_set (codes "--times") given.settings
+  pub asked_is : command.asked ≡ asked_options given.settings
+  pub readings_are : AreSaid (reading_texts given.settings) command.readings
+  pub resume_is : command.resume ≡ text_at (codes "--resume") given.settings
+  pub save_is : command.save ≡ text_at (codes "--save") given.settings
+  pub folder_is : command.folder ≡ chosen (task_asked given.settings) (text_at (codes "--folder") given.settings)
 
 -- a folder, by its bytes
 abbrev pub choice_value : FolderChoice → FolderValue
@@ -110,7 +103,9 @@ abbrev pub command_value : LiveCommand → CommandValue
 command_value command = record {
   query = command.query.now;
   plain = command.plain;
-  options = command.options;
+  dated = command.dated;
+  asked = command.asked;
+  readings = command.readings;
   resume = option_map (λ file. string_bytes file) command.resume;
   save = option_map (λ file. string_bytes file) command.save;
   folder = option_map choice_value command.folder;

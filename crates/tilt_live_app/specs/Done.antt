@@ -1,6 +1,7 @@
 -- What the program does if no folder is chosen (our own rule).
 use Rattle.std.specs.Prelude.{◌≡◌, ⊤, ℕ, List, [], codes, None, Some, Result, Ok, Err, MatchResult}
 use Rattle.tilt_live_app.specs.Arguments.{CommandValue, IsLiveCommand}
+use Rattle.tilt_live_app.specs.BeginReport.{BeginReport, begin_report, line_of_begin, status_of_begin}
 use Rattle.tilt_live_app.specs.Begun.{IsBegun, IsUnbegun}
 use Rattle.tilt_live_app.specs.Change.{IsSaved, IsUnsaved, ShelfChange}
 use Rattle.tilt_live_app.specs.Resumed.{IsTextAfter, StartsAt}
@@ -11,7 +12,7 @@ use Rattle.tilt_live_app.specs.declared.failure.Halt.{Halt}
 use Rattle.tilt_live_app.specs.declared.failure.Halt.TheVariants as halt
 use Rattle.tilt_live_run.specs.Reported.{Reported}
 use Rattle.tilt_port.specs.Transcript.{Transcript}
-use Rattle.tilt_report.specs.Report.{Report, line_of, out_of_memory, read_fault, report_of, save_fault, status_of, write_fault}
+use Rattle.tilt_report.specs.Report.{line_of, out_of_memory, read_fault, save_fault, write_fault}
 
 -- the status if something halted the feed
 abbrev pub status_of_halt : Halt → ℕ
@@ -39,14 +40,14 @@ module _ {K : Type 0} (shelf : ShelfChange) (tells : Type 0) (old new : Transcri
     -- state, and of all bytes of the feed
     pub record IsServed (Is : IsBegun shelf command → List ℕ → Type 0) (end : Result (Unit {0}) Halt) (err err_then : K) : Type 0 where
       pub begun : IsBegun shelf command
-      pub served : (start : Start) → StartsAt command.options begun.core begun.from start
-          → HasEnded begun.core command.options start tells old new err_tells err_written err_faults err err_then (Is begun) end
+      pub served : (start : Start) → StartsAt begun.options begun.core begun.from start
+          → HasEnded begun.core begun.options start tells old new err_tells err_written err_faults err err_then (Is begun) end
       -- if it ended by itself or by a bad line, all of the output was handed on
       pub handed_on : MatchResult end (λ _. new.held_back ≡ 0) (λ why. why ≡ halt.BadLine → new.held_back ≡ 0)
 
     -- the text is that of the state after all bytes of the feed
     abbrev pub IsTextOf : List ℕ → IsBegun shelf command → List ℕ → Type 0
-    IsTextOf text begun bytes = IsTextAfter command.options begun.core tells old new begun.query begun.from text bytes
+    IsTextOf text begun bytes = IsTextAfter begun.options begun.core tells old new begun.query begun.from text bytes
 
     -- the feed ended by itself, and its state, of which this is the text, was to be saved under a name
     pub record IsToSave (text name : List ℕ) (err err_then : K) : Type 0 where
@@ -62,8 +63,8 @@ module _ {K : Type 0} (shelf : ShelfChange) (tells : Type 0) (old new : Transcri
     -- written. Or it serves the feed, and all is done, or it reports what halted the feed. If the feed ended by itself and its state is to
     -- be saved, the save can fail, or there can be no memory for the state
     pub data HasDone (err err_then : K) : ℕ → Type 0 where
-      unbegun : {report : Report} → IsUnbegun shelf command report → new ≡ old
-          → Reported err_tells err_written err_faults err err_then (line_of report) → HasDone err err_then (status_of report)
+      unbegun : {report : BeginReport} → IsUnbegun shelf command report → new ≡ old
+          → Reported err_tells err_written err_faults err err_then (line_of_begin report) → HasDone err err_then (status_of_begin report)
       whole : IsDone err err_then → HasDone err err_then 0
       halted : (why : Halt) (between : K) → IsServed (λ _ _. ⊤) (Err why) err between
           → Reported err_tells err_written err_faults between err_then (line_of_halt why) → HasDone err err_then (status_of_halt why)
@@ -76,7 +77,7 @@ module _ {K : Type 0} (shelf : ShelfChange) (tells : Type 0) (old new : Transcri
     abbrev pub HasRun : K → K → Result (Unit {0}) Failure → Type 0
     HasRun err err_then (Ok _) = IsDone err err_then
     HasRun err err_then (Err (Halted why)) = IsServed (λ _ _. ⊤) (Err why) err err_then
-    HasRun err err_then (Err (Unbegun fault)) = IsUnbegun shelf command (report_of fault) × (new ≡ old) × (err_then ≡ err)
+    HasRun err err_then (Err (Unbegun why)) = IsUnbegun shelf command (begin_report why) × (new ≡ old) × (err_then ≡ err)
     HasRun err err_then (Err (Unsaved name)) =
         (text : List ℕ) × IsToSave text name.now err err_then × IsUnsaved shelf name.now text
     HasRun err err_then (Err Unmade) =

@@ -10,19 +10,21 @@ use Rattle.tilt_exactly_once.specs.declared.halt.Halt.TheVariants.{ReadFault}
 use Rattle.tilt_exactly_once.specs.declared.plan.Plan.{Plan}
 use Rattle.tilt_exactly_once.specs.declared.refusal.StartError.{StartError}
 use Rattle.tilt_live_app.specs.Arguments.{CommandValue, FolderValue}
+use Rattle.tilt_live_app.specs.BeginReport.{BeginReport, line_of_begin, status_of_begin}
 use Rattle.tilt_live_app.specs.Begun.{IsBegun, IsUnbegun}
 use Rattle.tilt_live_app.specs.Change.{ShelfChange}
 use Rattle.tilt_live_app.specs.FolderReport.{end_of, end_of_entering, line_of_end, status_of_end}
 use Rattle.tilt_live_app.specs.declared.arguments.Task.TheVariants.{Position, Serve}
 use Rattle.tilt_live_folder.specs.Feeds.{Commits, EndsBadly, Fits, LiveFeed, Rejects, output_for}
 use Rattle.tilt_live_folder.specs.Machines.{IsRunning}
+use Rattle.tilt_live_folder.specs.Rows.{run_options}
 use Rattle.tilt_live_run.specs.Reported.{Reported}
 use Rattle.tilt_outside.specs.Counts.{added_count}
 use Rattle.tilt_outside.specs.Faults.{Rose}
 use Rattle.tilt_outside.specs.Written.{AppendsFront}
 use Rattle.tilt_outside.specs.declared.failed.Failed.{Failed as PortFailed}
 use Rattle.tilt_port.specs.Transcript.{Transcript}
-use Rattle.tilt_report.specs.Report.{Report, line_of, out_of_memory, status_of, write_fault}
+use Rattle.tilt_report.specs.Report.{line_of, out_of_memory, write_fault}
 use Rattle.tilt_store.specs.Crash.{LeavesOnly}
 use Rattle.tilt_store.specs.Kept.{Kept}
 use Rattle.tilt_store.specs.Open.{OpensSame}
@@ -135,11 +137,11 @@ module _ {K : Type 0} (tells : Type 0) (old new : Transcript) (err_tells : Type 
         → Reported err_tells err_written err_faults err err_then (line_of_served name (Err (Unstarted error)))
         → HasCounted name given err err_then (status_of_served name (Err (Unstarted error))) (Some folder)
 
--- a feed is the one of the query that was taken, with the options of the command
+-- a feed is the one of the query that was taken, with the options of the run that the command asks for
 pub record IsFeedOf (shelf : ShelfChange) (command : CommandValue) (begun : IsBegun shelf command) (feed : LiveFeed) : Type 0 where
   pub query : feed.query ≡ begun.query
   pub core : feed.accepted.core ≡ begun.core
-  pub options : feed.options ≡ command.options
+  pub options : run_options feed.options ≡ begun.options
 
 -- The shelf and the port before and after, what a sink of reports says, and the command.
 module _ {K : Type 0} (shelf : ShelfChange) (tells : Type 0) (old new : Transcript) (err_tells : Type 0) (err_written : K → List ℕ) (err_faults : K → ℕ)
@@ -147,8 +149,8 @@ module _ {K : Type 0} (shelf : ShelfChange) (tells : Type 0) (old new : Transcri
   -- What the program does with the folder that the command chooses, a case for each end. It reports why it doesn't start. Or another
   -- program has the folder, or it can't be made. Or the position is counted, or the feed is served
   pub data HasDoneIn (choice : FolderValue) (err err_then : K) : ℕ → Option F → Type 0 where
-    unbegun : {report : Report} → IsUnbegun shelf command report → new ≡ old
-        → Reported err_tells err_written err_faults err err_then (line_of report) → HasDoneIn choice err err_then (status_of report) None
+    unbegun : {report : BeginReport} → IsUnbegun shelf command report → new ≡ old
+        → Reported err_tells err_written err_faults err err_then (line_of_begin report) → HasDoneIn choice err err_then (status_of_begin report) None
     unentered : (error : EnterError) → IsBegun shelf command → new ≡ old → (error ≡ Failed → Rose folders.faults_before folders.faults_after)
         → Reported err_tells err_written err_faults err err_then (line_of_end choice.name (end_of_entering choice.name error))
         → HasDoneIn choice err err_then (status_of_end (end_of_entering choice.name error)) None

@@ -1,6 +1,8 @@
 -- Where a run starts, and what it leaves for the next one (our own rule).
 use Rattle.std.specs.Prelude.{◌≡◌, ◌-◌, ⊤, ℕ, List, length, Option, None, Some}
 use Rattle.tilt_core.specs.Core.{CoreParts}
+use Rattle.tilt_feed_form.specs.declared.feed_form.FeedForm.{FeedForm}
+use Rattle.tilt_feed_form.specs.declared.feed_form.FeedForm.TheVariants.{Rows}
 use Rattle.tilt_feed_text.specs.Split.{ended}
 use Rattle.tilt_live_app.specs.Served.{Start, first_start, start_at}
 use Rattle.tilt_live_app.specs.StateFile.{TakesState}
@@ -21,10 +23,10 @@ GoesOnFrom tells files query options None (Some s) = ⊥
 GoesOnFrom tells files query options (Some file) None = ⊥
 GoesOnFrom tells files query options (Some file) (Some s) = tells → TakesState query options (files file) s
 
--- a run of a query with this core and these options can go on from the state
-abbrev pub IsFitFor : CoreParts → Options → Option LiveStateParts → Type 0
-IsFitFor core options None = ⊤
-IsFitFor core options (Some s) = IsStateOf core s × (s.progress.options ≡ options)
+-- a run of a query with this core over a feed of this form can go on from the state: the form is rows, with its options
+abbrev pub IsFitFor : CoreParts → FeedForm → Option LiveStateParts → Type 0
+IsFitFor core form None = ⊤
+IsFitFor core form (Some s) = IsStateOf core s × (form ≡ Rows s.progress.options)
 
 -- how many bytes of output were written before it
 abbrev pub written_before : Option LiveStateParts → ℕ

@@ -38,7 +38,7 @@ pub record Start : Type 0 where
 
 -- its first byte: no earlier run took any
 abbrev pub first_start : CoreParts → RunOptions → Start
-first_start core options = record { head = first_news options.with_begun core; before = [] }
+first_start core options = record { head = first_news options.display core; before = [] }
 
 -- the byte after these, which an earlier run took: nothing is written before more is read
 abbrev pub start_at : List ℕ → Start
@@ -63,7 +63,7 @@ module _ (core : CoreParts) (options : RunOptions) (start : Start) where
 
   -- all reports, if the feed ends with them: that of the line without an end too, if there is one
   abbrev pub all_reports : List ℕ → List ℕ
-  all_reports bytes = line_reports bytes ++ (if has_stop bytes then [] else end_report (start.before ++ bytes))
+  all_reports bytes = line_reports bytes ++ (if has_stop bytes then [] else end_report options (start.before ++ bytes))
 
   -- whether it ends badly: a line stops the run, or the last one has no end and bad lines stop the run
   abbrev pub ends_badly : List ℕ → Bool

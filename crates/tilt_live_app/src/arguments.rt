@@ -1,16 +1,21 @@
 // The arguments of the program.
 ghost use Rattle.std.specs.Prelude.{◌≡◌, Some, IfOk, MatchResult, codes, option_map, string_bytes};
-ghost use Rattle.tilt_cli.specs.Arguments.{AreArguments, ArgumentsValue, arguments_of, no_arguments};
+ghost use Rattle.tilt_cli.specs.Arguments.{arguments_of};
 ghost use Rattle.tilt_cli.specs.Command.{texts};
-ghost use Rattle.tilt_cli.specs.Options.{set_to, text_of};
 ghost use Rattle.tilt_cli.specs.declared.fault.WordsFault.TheVariants.{Usage};
-ghost use Rattle.tilt_live_app.specs.Arguments.{CommandValue, IsLiveCommand, choice_value, chosen, command_value, live_options};
-ghost use Rattle.tilt_live_app.specs.Arguments.{number_or, options_fit, run_options, task_asked};
+ghost use Rattle.tilt_live_app.specs.Arguments.{CommandValue, IsLiveCommand, asked_options, choice_value, chosen, command_value};
+ghost use Rattle.tilt_live_app.specs.Arguments.{display_asked, number_or, task_asked};
+ghost use Rattle.tilt_live_app.specs.Readings.{reading_texts, text_at};
 
+use crate::live_options::{options_fit, read_options};
+use crate::reading_texts::{read_readings, take_reading_texts};
 use std::alloc::Global;
-use tilt_cli::{Arguments, OptionRow, Shape, WordsFault, is_file};
+use tilt_cli::{Arguments, WordsFault, is_file};
 use tilt_exactly_once::Plan;
-use tilt_live_run::RunOptions;
+use tilt_live_folder::RowOptions;
+use tilt_live_run::Display;
+use tilt_reading_options::{ReadingChoice, ReadingTexts};
+use tilt_row_text::{RowStyle, Times};
 use tilt_watermarks::Options;
 
 // What the arguments ask for.
@@ -20,8 +25,12 @@ pub(crate) struct LiveCommand<'a> {
     pub(crate) query: &'a str,
     // Whether no loops are merged.
     pub(crate) plain: bool,
-    // What is asked of the run.
-    pub(crate) options: RunOptions,
+    // Whether times are written as dates.
+    pub(crate) dated: bool,
+    // What is asked of the run, if its feed has rows. A feed of readings has no watermarks of its own.
+    pub(crate) asked: RowOptions,
+    // How readings are written and what they mean, if its feed has readings.
+    pub(crate) readings: Option<ReadingChoice>,
     // The file of the state that it goes on from, if it goes on from one.
     pub(crate) resume: Option<String>,
     // The file in which its state is saved, if it is.
@@ -46,77 +55,14 @@ pub(crate) enum Task {
     Serve(Plan),
 }
 
-// The files of states, and a folder.
+// The texts that options have: those of readings if there are some, the files of states, and a folder.
 #[derive(Drop)]
-struct Files {
+struct Texts {
+    readings: Option<ReadingTexts>,
     resume: Option<String>,
     save: Option<String>,
     folder: Option<String>,
 }
-
-// All options, each with what it does.
-const LIVE_OPTIONS: [OptionRow; 12] = [
-    // prints also what has begun
-    OptionRow {
-        word: "--begun",
-        shape: Shape::Flag,
-    },
-    // stops at the first bad line
-    OptionRow {
-        word: "--strict",
-        shape: Shape::Flag,
-    },
-    // leaves out fusion, as for `tilt`; the output is the same
-    OptionRow {
-        word: "--plain",
-        shape: Shape::Flag,
-    },
-    // takes lines that come out of order by up to `N` ticks
-    OptionRow {
-        word: "--lateness",
-        shape: Shape::Ticks,
-    },
-    // lets no input be more than `N` ticks behind
-    OptionRow {
-        word: "--idle",
-        shape: Shape::Ticks,
-    },
-    // rejects a line that starts more than `N` ticks ahead
-    OptionRow {
-        word: "--ahead",
-        shape: Shape::Ticks,
-    },
-    // goes on from the state in a file
-    OptionRow {
-        word: "--resume",
-        shape: Shape::Text,
-    },
-    // saves the state when the feed has ended
-    OptionRow {
-        word: "--save",
-        shape: Shape::Text,
-    },
-    // writes into a folder, exactly once whatever kills it
-    OptionRow {
-        word: "--folder",
-        shape: Shape::Text,
-    },
-    // commits after every `N` lines
-    OptionRow {
-        word: "--every",
-        shape: Shape::Ticks,
-    },
-    // reads the feed from its byte `N` on
-    OptionRow {
-        word: "--from",
-        shape: Shape::Ticks,
-    },
-    // prints how many bytes of the feed are committed
-    OptionRow {
-        word: "--position",
-        shape: Shape::Flag,
-    },
-];
 
 // The command that the arguments are.
 pub(crate) fn read_command(alloc: Global, words: &[String]) -> Result<LiveCommand<'_>, WordsFault>
@@ -142,32 +88,21 @@ pub(crate) fn read_command(alloc: Global, words: &[String]) -> Result<LiveComman
         return Err(WordsFault::Usage);
     }
     let plain = given.has("--plain");
-    let options = run_options(&given);
+    let dated = given.has("--times");
+    let asked = asked_options(&given);
     let task = task_asked(&given);
-    let files = take_files(&mut given);
+    let texts = take_texts(&mut given);
+    let readings = read_readings(alloc, texts.readings)?;
     Ok(LiveCommand {
         query,
         plain,
-        options,
-        resume: files.resume,
-        save: files.save,
-        folder: choose(files.folder, task),
+        dated,
+        asked,
+        readings,
+        resume: texts.resume,
+        save: texts.save,
+        folder: choose(texts.folder, task),
     })
-}
-
-// Whether the options of folders and states fit together. With a folder there are no files of states. If its position is asked for, there
-// is no plan; and without a folder there is none of this.
-fn options_fit(given: &Arguments) -> bool
-    ensures { result ≡ options_fit (arguments_of given.now).settings }
-{
-    let position = given.has("--position");
-    let planned = given.has("--every") || given.has("--from");
-    let stated = given.has("--resume") || given.has("--save");
-    if given.has("--folder") {
-        !stated && !(position && planned)
-    } else {
-        !(position || planned)
-    }
 }
 
 // What the options ask to be done with a folder.
@@ -190,19 +125,22 @@ fn number_or(other: u64, number: Option<u64>) -> u64
     number.unwrap_or(other)
 }
 
-// The files of states and the folder. These options are taken out.
-fn take_files(given: &mut Arguments) -> Files
+// The texts of options. These options are taken out.
+fn take_texts(given: &mut Arguments) -> Texts
+    ensures readings { result.readings ≡ reading_texts (arguments_of given.old).settings }
     ensures resume { option_map (λ text. string_bytes text) result.resume
-        ≡ text_of (set_to (codes "--resume") (arguments_of given.old).settings) }
+        ≡ text_at (codes "--resume") (arguments_of given.old).settings }
     ensures save { option_map (λ text. string_bytes text) result.save
-        ≡ text_of (set_to (codes "--save") (arguments_of given.old).settings) }
+        ≡ text_at (codes "--save") (arguments_of given.old).settings }
     ensures folder { option_map (λ text. string_bytes text) result.folder
-        ≡ text_of (set_to (codes "--folder") (arguments_of given.old).settings) }
+        ≡ text_at (codes "--folder") (arguments_of given.old).settings }
 {
+    let readings = take_reading_texts(given);
     let resume = given.remove_text("--resume");
     let save = given.remove_text("--save");
     let folder = given.remove_text("--folder");
-    Files {
+    Texts {
+        readings,
         resume,
         save,
         folder,
@@ -219,21 +157,25 @@ fn choose(name: Option<String>, task: Task) -> Option<FolderChoice>
     }
 }
 
-// The arguments after the file of the query.
-fn read_options(alloc: Global, words: &[String]) -> Result<Arguments, WordsFault>
-    ensures { MatchResult result
-        (λ given. AreArguments live_options no_arguments (texts words.now) (arguments_of given))
-        (λ fault. fault ≡ Usage → (given : ArgumentsValue) → ¬ (AreArguments live_options no_arguments (texts words.now) given)) }
+// What the options ask to be written, and how.
+fn display_asked(given: &Arguments) -> Display
+    ensures { result ≡ display_asked (arguments_of given.now).settings }
 {
-    Arguments::read(alloc, &LIVE_OPTIONS, words)
+    Display {
+        with_begun: given.has("--begun"),
+        style: RowStyle {
+            times: Times::Ticks,
+            decimals: number_or(0, given.ticks_of("--decimals")).min(19) as u8,
+        },
+    }
 }
 
-// What is asked of the run.
-fn run_options(given: &Arguments) -> RunOptions
-    ensures { result ≡ run_options (arguments_of given.now).settings }
+// What the options ask of a run whose feed has rows.
+fn asked_options(given: &Arguments) -> RowOptions
+    ensures { result ≡ asked_options (arguments_of given.now).settings }
 {
-    RunOptions {
-        with_begun: given.has("--begun"),
+    RowOptions {
+        display: display_asked(given),
         strict: given.has("--strict"),
         watermarks: Options {
             idle: given.ticks_of("--idle"),

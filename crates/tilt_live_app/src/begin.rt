@@ -1,10 +1,10 @@
 // Where the run of a query begins.
-ghost use Rattle.std.specs.Prelude.{◌≡◌, IfOk, IfErr};
+ghost use Rattle.std.specs.Prelude.{◌≡◌, IfOk, IfErr, true};
 ghost use Rattle.tilt_live_app.specs.Resumed.{IsFitFor, StartsAt};
 ghost use Rattle.tilt_live_app.specs.Served.{Start};
 ghost use Rattle.tilt_live_app.specs.Serving.{IsRunAt};
 ghost use Rattle.tilt_live_run.specs.Adds.{Adds};
-ghost use Rattle.tilt_live_run.specs.Left.{KeepsState};
+ghost use Rattle.tilt_live_run.specs.Left.{KeepsState, is_rows};
 ghost use Rattle.tilt_live_run.specs.Runs.{IsSound};
 
 use std::alloc::Global;
@@ -29,14 +29,14 @@ pub(crate) struct Begin {
 impl Begin {
     // The run, after what comes before all that it reads was written: nothing, if it goes on from a state.
     pub(crate) fn run<P: Port>(self, alloc: Global, port: &mut P) -> Result<LiveRun, Stop>
-        requires { IsFitFor self.accepted.core self.options.watermarks self.from }
+        requires { IsFitFor self.accepted.core self.options.form self.from }
         ensures adds { (start : Start) → StartsAt self.options self.accepted.core self.from start
             → Adds P.tells (P.transcript port.old) (P.transcript port.new) start.head result }
         ensures is { (start : Start) → StartsAt self.options self.accepted.core self.from start
             → IfOk result (λ run. IsRunAt run self.accepted self.options start.before) }
         ensures no_bad_line { IfErr result (λ stop. stop ≡ Stop.BadLine → ⊥) }
         ensures sound { IfOk result IsSound }
-        ensures keeps { self.keep ≡ Keep.State → IfOk result KeepsState }
+        ensures keeps { self.keep ≡ Keep.State → is_rows self.options.form ≡ true → IfOk result KeepsState }
     {
         let Begin {
             accepted,

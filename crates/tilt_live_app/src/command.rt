@@ -1,7 +1,7 @@
 // The program's one call.
 ghost use Rattle.std.specs.Prelude.{◌≡◌, ◌≤◌, ◌↔◌, ℕ, List, None, Some, IfErr, option_map, string_bytes};
 ghost use Rattle.tilt_cli.specs.Command.{texts};
-ghost use Rattle.tilt_live_app.specs.Arguments.{CommandValue, IsLiveCommand, command_value};
+ghost use Rattle.tilt_live_app.specs.Arguments.{AreOfRows, CommandValue, IsLiveCommand, command_value};
 ghost use Rattle.tilt_live_app.specs.Change.{shelf_change};
 ghost use Rattle.tilt_live_app.specs.Keeping.{IsSaveFailure};
 ghost use Rattle.tilt_live_app.specs.Done.{HasDone, HasRun, IsSaving};
@@ -16,6 +16,7 @@ use crate::failure::{Failure, Halt};
 use crate::folder_end::report_fault;
 use crate::in_folder::{Lived, obey_in, without_folder};
 use crate::job::load_job;
+use crate::unbegun::report_unbegun;
 use std::alloc::Global;
 use tilt_live_run::Keep;
 use tilt_outside::{Shelf, Sink};
@@ -27,6 +28,9 @@ use tilt_store::{Folder, Folders};
 /// `--begun` writes what has begun, and with `--strict` the first bad line ends it. `--lateness`, `--idle` and `--ahead`, each with a
 /// number of ticks, are the options of its watermarks. The feed is read from the port until its end, line by line; what each line makes
 /// final is written before more is read.
+///
+/// With `--time COL` the feed is one of readings, and the options from `--name` on say how they are written and what they mean. Then no
+/// state is saved or gone on from, and there is no folder.
 ///
 /// With `--save FILE` the state of the run is saved once the feed has ended by itself and all output was handed on. With `--resume FILE` a
 /// run goes on from such a state. It writes only what is final after it, and its feed goes on with the byte after the last LF that the
@@ -40,7 +44,7 @@ use tilt_store::{Folder, Folders};
 ///
 /// The status of the result is the one that the program exits with:
 /// - 0: the feed ended, and its state was saved if it was to be; or the position was printed
-/// - 1: the query, the state, the folder or the feed is rejected, or a line is bad and `--strict` is given
+/// - 1: the query, the scales of its inputs, the state, the folder or the feed is rejected, or a line is bad and `--strict` is given
 /// - 2: the arguments are no command
 /// - 3: a read failed
 /// - 4: a write or a flush failed
@@ -95,6 +99,7 @@ fn obey<S: Shelf, P: Port, E: Sink>(
     requires lent { S.lends (command_value command.now).query }
     requires state_lent { (file : List ℕ) → (command_value command.now).resume ≡ Some file → S.lends file }
     requires saves { (file : List ℕ) (n : ℕ) → (command_value command.now).save ≡ Some file → S.takes shelf.old file n }
+    requires of_rows { AreOfRows (command_value command.now) }
     requires lines { (n : ℕ) → E.takes err.old n }
     ensures is { HasDone (shelf_change S.tells S.files S.read_faults S.save_faults shelf.old shelf.new) P.tells
         (P.transcript port.old) (P.transcript port.new) E.tells E.written E.faults (command_value command.now) err.old err.new result }
@@ -110,7 +115,7 @@ fn obey<S: Shelf, P: Port, E: Sink>(
         Err(Failure::Halted(Halt::ReadFault)) => report_fault(err, &Fault::ReadFault("-")),
         Err(Failure::Halted(Halt::WriteFault)) => report_fault(err, &Fault::WriteFault),
         Err(Failure::Halted(Halt::OutOfMemory)) => report_fault(err, &Fault::OutOfMemory),
-        Err(Failure::Unbegun(fault)) => report_fault(err, &fault),
+        Err(Failure::Unbegun(why)) => report_unbegun(err, &why),
         Err(Failure::Unsaved(name)) => report_fault(err, &Fault::SaveFault(name)),
         Err(Failure::Unmade) => report_fault(err, &Fault::OutOfMemory),
     }
@@ -127,6 +132,7 @@ fn run<'a, S: Shelf, P: Port, E: Sink>(
     requires lent { S.lends (command_value command.now).query }
     requires state_lent { (file : List ℕ) → (command_value command.now).resume ≡ Some file → S.lends file }
     requires saves { (file : List ℕ) (n : ℕ) → (command_value command.now).save ≡ Some file → S.takes shelf.old file n }
+    requires of_rows { AreOfRows (command_value command.now) }
     requires lines { (n : ℕ) → E.takes err.old n }
     ensures is { HasRun (shelf_change S.tells S.files S.read_faults S.save_faults shelf.old shelf.new) P.tells
         (P.transcript port.old) (P.transcript port.new) E.tells E.written E.faults (command_value command.now) err.old err.new result }
@@ -140,10 +146,10 @@ fn run<'a, S: Shelf, P: Port, E: Sink>(
 {
     let job = match load_job(alloc, shelf, command) {
         Ok(job) => job,
-        Err(fault) => return Err(Failure::Unbegun(fault)),
+        Err(why) => return Err(Failure::Unbegun(why)),
     };
     let keep = keep_for(&command.save);
-    let served = match EndedRun::serve(alloc, job, command.options, keep, port, err) {
+    let served = match EndedRun::serve(alloc, job, keep, port, err) {
         Ok(served) => served,
         Err(halt) => return Err(Failure::Halted(halt)),
     };

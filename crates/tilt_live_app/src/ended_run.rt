@@ -1,11 +1,11 @@
 // A feed that was served to its end, and what is kept of its run.
-ghost use Rattle.std.specs.Prelude.{◌≡◌, ◌≤◌, ◌-◌, ◌↔◌, ℕ, List, Ok, Err, length, IfOk, IfErr, MatchResult};
+ghost use Rattle.std.specs.Prelude.{◌≡◌, ◌≤◌, ◌-◌, ◌↔◌, ℕ, List, Ok, Err, length, IfOk, IfErr, MatchResult, true};
 ghost use Rattle.tilt_live_app.specs.Change.{shelf_change};
 ghost use Rattle.tilt_live_app.specs.Keeping.{HasKept, IsSaveFailure, IsTextOfRun};
 ghost use Rattle.tilt_live_app.specs.Resumed.{IsFitFor, StartsAt, written_before};
 ghost use Rattle.tilt_live_app.specs.Served.{HasEnded, HasServed, Start};
 ghost use Rattle.tilt_live_app.specs.Serving.{IsRunAt};
-ghost use Rattle.tilt_live_run.specs.Left.{KeepsState};
+ghost use Rattle.tilt_live_run.specs.Left.{KeepsState, is_rows};
 ghost use Rattle.tilt_live_run.specs.Runs.{IsSound};
 ghost use Rattle.tilt_outside.specs.Counts.{added_count};
 ghost use Rattle.tilt_outside.specs.Reads.{OnlyReads};
@@ -15,7 +15,7 @@ use crate::failure::{Failure, Halt};
 use crate::job::Job;
 use crate::serve::serve;
 use std::alloc::{AllocError as OutOfMemory, Global};
-use tilt_live_run::{Keep, LiveRun, RunOptions};
+use tilt_live_run::{Keep, LiveRun};
 use tilt_live_state::{LiveState, encode};
 use tilt_outside::{Shelf, Sink};
 use tilt_port::Port;
@@ -34,18 +34,17 @@ impl EndedRun {
     pub(crate) fn serve<P: Port, E: Sink>(
         alloc: Global,
         job: Job,
-        options: RunOptions,
         keep: Keep,
         port: &mut P,
         err: &mut E,
     ) -> Result<EndedRun, Halt>
-        requires fit { IsFitFor job.accepted.core options.watermarks job.from }
+        requires fit { IsFitFor job.accepted.core job.options.form job.from }
         requires lines { (n : ℕ) → E.takes err.old n }
-        ensures served { (start : Start) → StartsAt options job.accepted.core job.from start
+        ensures served { (start : Start) → StartsAt job.options job.accepted.core job.from start
             → MatchResult result
-            (λ served. HasEnded job.accepted.core options start P.tells (P.transcript port.old) (P.transcript port.new)
-            E.tells E.written E.faults err.old err.new (IsRunAt served.run job.accepted options) (Ok tt))
-            (λ why. HasServed job.accepted.core options start P.tells (P.transcript port.old) (P.transcript port.new)
+            (λ served. HasEnded job.accepted.core job.options start P.tells (P.transcript port.old) (P.transcript port.new)
+            E.tells E.written E.faults err.old err.new (IsRunAt served.run job.accepted job.options) (Ok tt))
+            (λ why. HasServed job.accepted.core job.options start P.tells (P.transcript port.old) (P.transcript port.new)
             E.tells E.written E.faults err.old err.new (Err why)) }
         ensures handed_on { MatchResult result (λ _. (P.transcript port.new).held_back ≡ 0)
             (λ why. why ≡ Halt.BadLine → (P.transcript port.new).held_back ≡ 0) }
@@ -53,12 +52,13 @@ impl EndedRun {
         ensures written { P.tells → IfOk result (λ served. served.written ≡ added_count (written_before job.from)
             (added_count 0 (length (P.transcript port.new).written) - added_count 0 (length (P.transcript port.old).written))) }
         ensures sound { IfOk result (λ served. IsSound served.run) }
-        ensures keeps { keep ≡ Keep.State → IfOk result (λ served. KeepsState served.run) }
+        ensures keeps { keep ≡ Keep.State → is_rows job.options.form ≡ true → IfOk result (λ served. KeepsState served.run) }
         ensures takes { (n : ℕ) → E.takes err.new n }
     {
         let Job {
             query,
             accepted,
+            options,
             from,
         } = job;
         let before = written_before(&from);

@@ -1,10 +1,9 @@
 // Why the program doesn't do all that it is to do.
 ghost use Rattle.std.specs.Prelude.{◌≡◌};
 
+use crate::unbegun::Unbegun;
 use std::alloc::AllocError;
 use tilt_live_run::Stop;
-use tilt_outside::Failed;
-use tilt_report::Fault;
 
 // Why a feed isn't served to its end.
 #[derive(Clone, Copy, Debug, PartialEq, Eq)]
@@ -47,7 +46,7 @@ impl From<AllocError> for Halt {
 #[derive(Drop)]
 pub(crate) enum Failure<'a> {
     // The feed wasn't begun.
-    Unbegun(Fault<'a>),
+    Unbegun(Unbegun<'a>),
     // The feed wasn't served to its end.
     Halted(Halt),
     // The feed was served to its end, and the save of its state in the file of this name failed.

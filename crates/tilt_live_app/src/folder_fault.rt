@@ -4,6 +4,7 @@ ghost use Rattle.tilt_live_app.specs.FolderReport.{front_of};
 ghost use Rattle.tilt_outside.specs.Written.{Puts};
 
 use crate::folder_end::FolderFault;
+use crate::named_line::put_line;
 use tilt_outside::{Failed, Sink};
 
 // Writes the line that reports the fault of the folder of that name.
@@ -11,25 +12,7 @@ pub(crate) fn put_fault<E: Sink>(err: &mut E, name: &str, fault: FolderFault) ->
     requires { (n : ℕ) → E.takes err.old n }
     ensures { Puts E.tells E.written E.faults E.takes err.old err.new (front_of fault ++ (name.now ++ codes "\n")) result }
 {
-    put(err, front_of(fault))?;
-    put_name(err, name)
-}
-
-// Writes the name of a folder, and the end of the line.
-fn put_name<E: Sink>(err: &mut E, name: &str) -> Result<(), Failed>
-    requires { (n : ℕ) → E.takes err.old n }
-    ensures { Puts E.tells E.written E.faults E.takes err.old err.new (name.now ++ codes "\n") result }
-{
-    put(err, name.as_bytes())?;
-    put(err, b"\n")
-}
-
-// Writes a text.
-fn put<E: Sink>(err: &mut E, text: &[u8]) -> Result<(), Failed>
-    requires { (n : ℕ) → E.takes err.old n }
-    ensures { Puts E.tells E.written E.faults E.takes err.old err.new text.now result }
-{
-    err.put(text)
+    put_line(err, front_of(fault), name.as_bytes())
 }
 
 // The number and the words of a fault.

@@ -1,6 +1,6 @@
 // A command whose feed is served into a folder.
 ghost use Rattle.std.specs.Prelude.{◌≡◌, ℕ, List, None, Some, IfOk};
-ghost use Rattle.tilt_live_app.specs.Arguments.{choice_value, command_value};
+ghost use Rattle.tilt_live_app.specs.Arguments.{AreOfRows, choice_value, command_value};
 ghost use Rattle.tilt_live_app.specs.Change.{shelf_change};
 ghost use Rattle.tilt_live_app.specs.InFolder.{HasCounted, HasDoneIn, HasPrinted, HasServedIn, IsPrinted, folder_meaning};
 ghost use Rattle.tilt_live_app.specs.InFolder.{folders_change, line_of_served, position_text, status_of_served};
@@ -11,6 +11,7 @@ ghost use Rattle.tilt_store.specs.Crash.{Only};
 use crate::arguments::{FolderChoice, LiveCommand, Task};
 use crate::folder_end::{end_of, end_of_entering, report_end, report_fault};
 use crate::job::load_job;
+use crate::unbegun::report_unbegun;
 use std::alloc::{AllocError as OutOfMemory, Global};
 use tilt_exactly_once::{Failure, Plan, count_committed, serve_feed};
 use tilt_live_folder::{LiveMachine, LiveRecipe};
@@ -39,6 +40,8 @@ pub(crate) fn obey_in<S: Shelf, F: Folder, D: Folders<F>, P: Port, E: Sink>(
 ) -> Lived<F>
     requires lent { S.lends (command_value command.now).query }
     requires state_lent { (file : List ℕ) → (command_value command.now).resume ≡ Some file → S.lends file }
+    requires of_rows { AreOfRows (command_value command.now) }
+    requires chosen { (command_value command.now).folder ≡ Some (choice_value choice.now) }
     requires lines { (n : ℕ) → E.takes err.old n }
     ensures is { HasDoneIn (shelf_change S.tells S.files S.read_faults S.save_faults shelf.old shelf.new) P.tells
         (P.transcript port.old) (P.transcript port.new) E.tells E.written E.faults (command_value command.now)
@@ -48,14 +51,14 @@ pub(crate) fn obey_in<S: Shelf, F: Folder, D: Folders<F>, P: Port, E: Sink>(
 {
     let job = match load_job(alloc, shelf, command) {
         Ok(job) => job,
-        Err(fault) => return without_folder(report_fault(err, &fault)),
+        Err(why) => return without_folder(report_unbegun(err, &why)),
     };
     let name = choice.name.as_str();
     let folder = match folders.enter(alloc, name) {
         Ok(folder) => folder,
         Err(error) => return without_folder(report_end(err, name, &end_of_entering(name, error))),
     };
-    let recipe = LiveRecipe::new(job.query, job.accepted, command.options);
+    let recipe = LiveRecipe::new(job.query, job.accepted, command.asked);
     match choice.task {
         Task::Position => print_position(alloc, folder, recipe, name, port, err),
         Task::Serve(plan) => serve_in(alloc, folder, recipe, plan, name, port, err),

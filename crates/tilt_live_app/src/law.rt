@@ -1,8 +1,8 @@
 // A law of feeds that are served by one run after another.
 ghost use Rattle.std.specs.Prelude.{◌≡◌, ◌||◌, ◌&&◌, ◌++◌, if◌then◌else◌, ℕ, List, [], false, length};
 ghost use Rattle.tilt_core.specs.Core.{CoreParts};
-ghost use Rattle.tilt_feed_text.specs.Report.{reports_from};
-ghost use Rattle.tilt_feed_text.specs.Said.{first_state, stop_among};
+ghost use Rattle.tilt_feed_form.specs.Report.{reports_from};
+ghost use Rattle.tilt_feed_form.specs.Said.{first_state, stop_among};
 ghost use Rattle.tilt_feed_text.specs.Split.{whole_lines};
 ghost use Rattle.tilt_live_app.specs.Served.{Start, all_reports, ends_badly, first_start, has_stop, line_reports, output_for, start_after};
 ghost use Rattle.tilt_live_run.specs.Output.{output};
@@ -20,18 +20,18 @@ pub fn runs_are_joined()
         → output_for core options (first_start core options) bytes ≡ output options core (whole_lines bytes) }
     ensures first_stop { (core : CoreParts) (options : RunOptions) (bytes : List ℕ)
         → has_stop core options (first_start core options) bytes
-        ≡ stop_among options.strict options.watermarks core.inputs 0 (first_state (length core.inputs)) (whole_lines bytes) }
+        ≡ stop_among options.strict options.form core.inputs 0 (first_state options.form (length core.inputs)) (whole_lines bytes) }
     ensures first_lines { (core : CoreParts) (options : RunOptions) (bytes : List ℕ)
         → line_reports core options (first_start core options) bytes
-        ≡ reports_from options.strict options.watermarks core.inputs 0 (first_state (length core.inputs)) (whole_lines bytes) }
+        ≡ reports_from options.strict options.form core.inputs 0 (first_state options.form (length core.inputs)) (whole_lines bytes) }
     ensures first_reported { (core : CoreParts) (options : RunOptions) (bytes : List ℕ)
         → all_reports core options (first_start core options) bytes
-        ≡ reports_from options.strict options.watermarks core.inputs 0 (first_state (length core.inputs)) (whole_lines bytes)
-        ++ (if stop_among options.strict options.watermarks core.inputs 0 (first_state (length core.inputs)) (whole_lines bytes) then []
-        else end_report bytes) }
+        ≡ reports_from options.strict options.form core.inputs 0 (first_state options.form (length core.inputs)) (whole_lines bytes)
+        ++ (if stop_among options.strict options.form core.inputs 0 (first_state options.form (length core.inputs)) (whole_lines bytes)
+        then [] else end_report options bytes) }
     ensures first_badly { (core : CoreParts) (options : RunOptions) (bytes : List ℕ)
         → ends_badly core options (first_start core options) bytes
-        ≡ (stop_among options.strict options.watermarks core.inputs 0 (first_state (length core.inputs)) (whole_lines bytes)
+        ≡ (stop_among options.strict options.form core.inputs 0 (first_state options.form (length core.inputs)) (whole_lines bytes)
         || (options.strict && is_unfinished bytes)) }
     ensures written { (core : CoreParts) (options : RunOptions) (start : Start) (bytes more : List ℕ)
         → has_stop core options start bytes ≡ false

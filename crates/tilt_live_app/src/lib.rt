@@ -2,6 +2,8 @@
 //! through the port, is what is final of a query's output while its feed is read. A run can go on from the state that an earlier one saved,
 //! and save its own. Or the output goes into a folder, exactly once.
 //!
+//! A feed has rows, or readings if there is a column of times. `specs/Asked` says which run the arguments ask for.
+//!
 //! `specs/Lived` says what the call does: the clause `is` of `live` has a case for each end. If the query was taken, `HasServed` says what
 //! was written. At each moment at which more was read it is exactly the output for the lines that had come, handed on. If a folder was
 //! chosen, `specs/InFolder` says what each crash leaves of it.
@@ -17,8 +19,13 @@ mod folder_fault;
 mod in_folder;
 mod job;
 mod law;
+mod live_options;
+mod named_line;
+mod reading_texts;
+mod run_options;
 mod serve;
 mod state_file;
+mod unbegun;
 
 pub use command::live;
 pub use in_folder::Lived;

@@ -3,6 +3,7 @@ use Rattle.std.proofs.Common.{◌≡◌, ℕ, ◌<◌, ◌^◌, List, [], ◌++�
 use Rattle.tilt_feed_text.specs.Split.{ended, unfinished}
 use Rattle.tilt_live_folder.proofs.Tails.{state-parts}
 use Rattle.tilt_live_folder.specs.Feeds.{Commits, IsLeft, LiveFeed, output_for, state_of}
+use Rattle.tilt_live_folder.specs.Rows.{run_options}
 use Rattle.tilt_live_run.specs.Runs.{is_stopped}
 use Rattle.tilt_live_state.specs.Spelling.{spelled}
 use Rattle.tilt_live_state.specs.State.{LiveStateParts}
@@ -18,7 +19,7 @@ pub counted : (n : ℕ) → n < 2 ^ 63 → n ≡ added_count 0 n
 counted n low = omega (arith, low)
 
 -- the text of a machine's state makes a commit
-pub commit-of : (feed : LiveFeed) (bytes : List ℕ) (written : ℕ) (s : LiveStateParts) (text : List ℕ) → is_stopped feed.options feed.accepted.core [] bytes ≡ false
+pub commit-of : (feed : LiveFeed) (bytes : List ℕ) (written : ℕ) (s : LiveStateParts) (text : List ℕ) → is_stopped (run_options feed.options) feed.accepted.core [] bytes ≡ false
     → written ≡ added_count 0 (length (output_for feed bytes)) → s ≡ state_of feed bytes written → IsState s → IsInRange s → text ≡ spelled s ++ unfinished bytes
     → Commits feed bytes (record { output = output_for feed bytes; state = text })
 commit-of feed bytes written s text none count is valid range text-is =

@@ -5,7 +5,7 @@ use Rattle.std.proofs.lemmas.List.{take_at}
 use Rattle.tilt_checkpoint.specs.Spelling.{query_lines}
 use Rattle.tilt_core.specs.Core.{CoreParts}
 use Rattle.tilt_feed_text.proofs.Splitting.{are-ended, unfinished-append}
-use Rattle.tilt_feed_text.specs.Said.{stop_among}
+use Rattle.tilt_feed_form.specs.Said.{stop_among}
 use Rattle.tilt_feed_text.specs.Split.{ended, unfinished, unfinished_after}
 use Rattle.tilt_live_run.specs.Runs.{is_stopped, number_of, state_after}
 use Rattle.tilt_live_run.specs.declared.run_options.RunOptions.{RunOptions}
@@ -55,4 +55,4 @@ state-parts s bytes = are_parts (spelled s) (unfinished bytes) (spelled_ends s) 
 -- a line stops the run exactly if it does among the lines alone
 pub stopped-ended : (options : RunOptions) (core : CoreParts) (bytes : List ℕ) → is_stopped options core [] (ended bytes) ≡ is_stopped options core [] bytes
 stopped-ended options core bytes =
-    ap (λ (lines : List (List ℕ)). stop_among options.strict options.watermarks core.inputs (number_of []) (state_after options core []) lines) (are-ended bytes).lines
+    ap (λ (lines : List (List ℕ)). stop_among options.strict options.form core.inputs (number_of []) (state_after options core []) lines) (are-ended bytes).lines

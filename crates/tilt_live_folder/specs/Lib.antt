@@ -4,3 +4,4 @@ pub mod Feeds
 pub mod Laws
 pub mod Machines
 pub mod Range
+pub mod Rows

@@ -4,6 +4,7 @@ ghost use Rattle.tilt_feed_text.specs.Split.{ended, unfinished};
 ghost use Rattle.tilt_live_folder.specs.Feeds.{Commits, EndsBadly, Fits, LiveFeed, Rejects, output_for};
 ghost use Rattle.tilt_live_folder.specs.Laws.{has_output, has_state};
 ghost use Rattle.tilt_live_folder.specs.Machines.{CanRun, IsRunning};
+ghost use Rattle.tilt_live_folder.specs.Rows.{run_options};
 ghost use Rattle.tilt_live_run.specs.Left.{state_left};
 ghost use Rattle.tilt_live_state.specs.Spelling.{spelled};
 ghost use Rattle.tilt_live_state.specs.Valid.{IsState};
@@ -38,7 +39,7 @@ impl LiveMachine {
     fn make_state(&mut self, alloc: Global, written: u64) -> Result<LiveState, OutOfMemory>
         requires { CanRun self.old }
         ensures is { (feed : LiveFeed) (bytes : List ℕ) → IsRunning self.old feed bytes
-            → IfOk result (λ state. state ≡ state_left feed.options feed.accepted.core feed.query (ended bytes) written) }
+            → IfOk result (λ state. state ≡ state_left (run_options feed.options) feed.accepted.core feed.query (ended bytes) written) }
         ensures valid { (feed : LiveFeed) (bytes : List ℕ) → IsRunning self.old feed bytes → IfOk result IsState }
         ensures goes_on { (feed : LiveFeed) (bytes : List ℕ) → IsRunning self.old feed bytes → OnOk result (IsRunning self.new feed bytes) }
         ensures tail { self.new.tail.items ≡ self.old.tail.items }
@@ -116,7 +117,7 @@ impl Machine for LiveMachine {
             options,
         } = recipe;
         let mut buffer = Buffer::new(alloc);
-        match LiveRun::start(alloc, accepted, options, Keep::State, &mut buffer) {
+        match LiveRun::start(alloc, accepted, options.for_run(), Keep::State, &mut buffer) {
             Ok(run) => Ok(Started {
                 machine: LiveMachine {
                     run,

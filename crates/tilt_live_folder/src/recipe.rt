@@ -8,20 +8,20 @@ ghost use Rattle.tilt_live_state.specs.Valid.{IsInRange, IsState};
 ghost use Rattle.tilt_types.specs.Checked.{core_of};
 
 use crate::query::is_same;
+use crate::row_options::RowOptions;
 use std::alloc::Global;
 use std::marker::Model;
 use tilt_compiler::Accepted;
 use tilt_exactly_once::Refusal;
-use tilt_live_run::RunOptions;
 use tilt_live_state::{LiveState, StateFault, decode};
 use tilt_syntax::Query;
 
-/// An accepted query with its core, and the options of its run. The machine is made from it.
+/// An accepted query with its core, and the options of its run, whose feed has rows. The machine is made from it.
 #[derive(Drop)]
 pub struct LiveRecipe {
     pub(crate) query: Query,
     pub(crate) accepted: Accepted,
-    pub(crate) options: RunOptions,
+    pub(crate) options: RowOptions,
 }
 
 impl Model for LiveRecipe {
@@ -44,7 +44,7 @@ impl Model for LiveRecipe {
 
 impl LiveRecipe {
     /// The recipe of an accepted query.
-    pub fn new(query: Query, accepted: Accepted, options: RunOptions) -> LiveRecipe
+    pub fn new(query: Query, accepted: Accepted, options: RowOptions) -> LiveRecipe
         requires accepted { IsAccepted query }
         requires core { core_of query ≡ accepted.core }
         ensures { result ≡ record { query = query; accepted = accepted; options = options } }

@@ -34,7 +34,7 @@ pub(crate) fn resume_lines(
         options,
     } = recipe;
     let tail = Vec::new(alloc);
-    match LiveRun::resume(alloc, accepted, options, state, Keep::State) {
+    match LiveRun::resume(alloc, accepted, options.for_run(), state, Keep::State) {
         Ok(run) => Ok(Resumed {
             machine: LiveMachine {
                 run,

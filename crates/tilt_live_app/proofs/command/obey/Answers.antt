@@ -46,8 +46,8 @@ returns-in-Err-Halted-OutOfMemory-clause-rest g c = λ _ _. (rw c.in-Err-Halted-
 
 pub returns-in-Err-Unbegun-clause-is : goal.returns-in-Err-Unbegun-clause-is
 returns-in-Err-Unbegun-clause-is g c =
-    let ran = rw (c.in-Err-Unbegun.field-0-is, c.in-Err-Unbegun.fault-is) at c.in-Err-Unbegun.ensures.is in
-    rw c.report_fault-in-Err-Unbegun.ensures.status (unbegun ran.0 ran.1 (rw ran.2 at c.report_fault-in-Err-Unbegun.ensures.line))
+    let ran = rw (c.in-Err-Unbegun.field-0-is, c.in-Err-Unbegun.why-is) at c.in-Err-Unbegun.ensures.is in
+    rw c.report_unbegun.ensures.status (unbegun ran.0 ran.1 (rw ran.2 at c.report_unbegun.ensures.line))
 
 pub returns-in-Err-Unbegun-clause-rest : goal.returns-in-Err-Unbegun-clause-rest
 returns-in-Err-Unbegun-clause-rest g c = λ _ _. (rw c.in-Err-Unbegun.field-0-is at c.in-Err-Unbegun.ensures.rest) (λ e. e)

@@ -1,12 +1,4 @@
-use Rattle.std.proofs.Common.{◌++◌, codes}
-use Rattle.tilt_outside.proofs.Puts.{puts-short, puts-then}
 use Rattle.tilt_live_app.proofs.folder_fault.put_fault.Goals as goal
 
-pub returns-in_err-put : goal.returns-in_err-put
-returns-in_err-put g c =
-    rw (← c.front_of.ensures) (puts-short _ _ _ _ g.met.E.Sink.takes_fewer _ _ c.front_of.result.now (c.args.name.now ++ codes "\n") _
-    c.from_residual.result c.from_residual.ensures.0 c.in_err-put.ensures)
-
 pub returns : goal.returns
-returns g c =
-    rw (← c.front_of.ensures) (puts-then _ _ _ _ _ _ _ c.front_of.result.now (c.args.name.now ++ codes "\n") _ c.in_ok-put.ensures c.put_name.ensures)
+returns g c = rw (c.front_of.ensures, c.as_bytes.ensures.value) at c.put_line.ensures

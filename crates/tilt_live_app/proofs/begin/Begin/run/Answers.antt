@@ -1,5 +1,5 @@
 use Rattle.std.proofs.Common.{◌∙◌, ap, Err}
-use Rattle.std.proofs.lemmas.Result.{err_from_is_err_and}
+use Rattle.std.proofs.lemmas.Result.{IfOk-weaker, err_from_is_err_and}
 use Rattle.tilt_live_run.proofs.Adding.{adds-stopped}
 use Rattle.tilt_live_app.proofs.begin.Begin.run.Goals as goal
 
@@ -16,3 +16,6 @@ returns-in_ok-run-in-Some-clause-is g c = λ start at.
 
 pub returns-in-None-clause-adds : goal.returns-in-None-clause-adds
 returns-in-None-clause-adds g c = λ start at. let first = rw c.in-None.is at at in rw first c.start.ensures.adds
+
+pub returns-in-None-clause-keeps : goal.returns-in-None-clause-keeps
+returns-in-None-clause-keeps g c = λ keep rows. IfOk-weaker c.start.result _ _ (λ _ both. both.1 (keep, rows)) c.start.ensures.keeps

@@ -1,0 +1,6 @@
+use Rattle.tilt_live_run.proofs.Reporting.{reported-put}
+use Rattle.tilt_live_app.proofs.unbegun.report_unbegun.Goals as goal
+
+pub returns-in-NoInput-clause-line : goal.returns-in-NoInput-clause-line
+returns-in-NoInput-clause-line g c =
+    rw (c.in-NoInput.is, ← c.bytes.ensures.value) (reported-put _ _ _ g.E.Sink.takes _ _ _ c.put_line.result c.put_line.ensures)

@@ -1,0 +1,46 @@
+// Why a feed isn't begun, and how that is reported.
+ghost use Rattle.std.specs.Prelude.{◌≡◌, ℕ};
+ghost use Rattle.tilt_live_app.specs.BeginReport.{begin_report, line_of_begin, status_of_begin};
+ghost use Rattle.tilt_live_run.specs.Reported.{Reported};
+
+use crate::folder_end::report_fault;
+use crate::named_line::put_line;
+use tilt_lexer::Name;
+use tilt_outside::Sink;
+use tilt_report::Fault;
+
+// Why a feed isn't begun.
+#[derive(Drop)]
+pub(crate) enum Unbegun<'a> {
+    // By a fault of all commands.
+    Shared(Fault<'a>),
+    // The option `--scale` has this name, which is no input of the query.
+    NoInput(Name),
+}
+
+impl<'a> From<Fault<'a>> for Unbegun<'a> {
+    ghost use Rattle.std.specs.Prelude.{◌≡◌};
+    ghost use Rattle.tilt_live_app.specs.declared.unbegun.Unbegun.TheVariants.{Shared};
+
+    ghost from_gives = { λ fault why. why ≡ Shared fault };
+
+    fn from(fault: Fault<'a>) -> Self {
+        Unbegun::Shared(fault)
+    }
+}
+
+// Reports why a feed isn't begun, and returns the status.
+pub(crate) fn report_unbegun<E: Sink>(err: &mut E, why: &Unbegun<'_>) -> u8
+    requires { (n : ℕ) → E.takes err.old n }
+    ensures status { result ≡ status_of_begin (begin_report why.now) }
+    ensures line { Reported E.tells E.written E.faults err.old err.new (line_of_begin (begin_report why.now)) }
+{
+    match why {
+        Unbegun::Shared(fault) => report_fault(err, fault),
+        Unbegun::NoInput(name) => {
+            // A fault of the sink changes nothing.
+            let _ = put_line(err, b"tilt: 66 no input ", name.bytes());
+            1
+        }
+    }
+}
