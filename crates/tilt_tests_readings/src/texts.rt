@@ -8,6 +8,7 @@ use tilt_lexer::Name;
 use tilt_outside::MemSink;
 use tilt_reading_feed::FeedFault;
 use tilt_reading_lines::{Column, HeaderFault, LineFault, Moments, Rules, Source, Titles};
+use tilt_reading_state::{decode_kept, encode_kept};
 use tilt_reading_text::{BadReadingLine, ReadingForm, ReadingText, TakeLineError, put_report};
 use tilt_readings::{Clock, Closed, DateFault, DecimalFault};
 
@@ -224,14 +225,21 @@ fn events_in_two(alloc: Global, count: usize) -> Result<Vec<Event>, Fail> {
     Ok(events)
 }
 
-// A text that goes on from what another one keeps, with the columns of the header and the values that hold.
+// A text that goes on from what another one keeps, as it is spelled. That has the columns of the header and the values that hold.
 fn resumed(alloc: Global, first: &ReadingText) -> Result<ReadingText, Fail> {
-    let kept = &first.kept(alloc)?;
-    let form = make_form(alloc)?;
-    if kept.readings.inputs.len() != 2 || form.sources.len() > 100 {
-        return Err("two inputs were expected".into());
+    let mut spelled = Vec::new(alloc);
+    encode_kept(&first.kept(alloc)?, &mut spelled)?;
+    match decode_kept(alloc, spelled.as_slice()) {
+        Ok((kept, _count)) => {
+            let kept = &kept;
+            let form = make_form(alloc)?;
+            if kept.readings.inputs.len() != 2 || form.sources.len() > 100 {
+                return Err("two inputs were expected".into());
+            }
+            Ok(ReadingText::resume(alloc, form, &[HOLD, HOLD], kept)?)
+        }
+        Err(_fault) => Err("what was kept isn't read back".into()),
     }
-    Ok(ReadingText::resume(alloc, form, &[HOLD, HOLD], kept)?)
 }
 
 #[test]

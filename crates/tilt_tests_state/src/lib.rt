@@ -1,5 +1,7 @@
-//! Tests of the text of live states, on texts that were written by hand.
+//! Tests of the texts of live states, and of what is kept of texts of readings, on texts that were written by hand.
 #![tactic(auto)]
 
+#[cfg(test)]
+mod readings;
 #[cfg(test)]
 mod texts;

@@ -1,0 +1,4 @@
+pub mod Range
+pub mod Reading
+pub mod Spelling
+pub mod Valid
