@@ -1,8 +1,9 @@
 // Texts in units, and the queries over whole numbers that they are.
-use crate::texts::{TEXTS, TextCase};
+use crate::texts::{TEXTS, TextCase, WHOLE};
 use std::alloc::Global;
 use std::test::Fail;
 use tilt_lexer::Name;
+use tilt_syntax::print;
 use tilt_unit_text::{InputScale, UnitFault, UnitQuery, read_in_units};
 use tilt_units::Scale;
 
@@ -39,6 +40,37 @@ fn texts_are_queries_over_whole_numbers(rt: HostRuntime) -> Result<(), Fail> {
     let alloc = rt.alloc();
     for case in TEXTS {
         let shown = show(alloc, case)?;
+        assert_eq!(rt; shown.as_str(), case.2);
+    }
+    Ok(())
+}
+
+// A sum of a price in hundredths and 100 readings in tenths, each of which is multiplied by 10.
+#[test]
+fn large_expressions_have_the_place_of_their_statement(rt: HostRuntime) -> Result<(), Fail> {
+    let alloc = rt.alloc();
+    let mut sum = String::from_str(alloc, "price")?;
+    for _ in 0..100 {
+        sum.push_str(" + spo2")?;
+    }
+    let text = format!(in alloc; "input spo2; input price; emit {sum} over (0, 600];")?;
+    let scales = scales_of(alloc, &[("price", 100), ("spo2", 10)])?;
+    let given = read_in_units(alloc, text.as_bytes(), &scales);
+    assert!(rt; given.err() == Some(UnitFault::WholeTooLarge { statement: 3 }));
+    Ok(())
+}
+
+// The text of the query over whole numbers.
+fn show_query(alloc: Global, case: &TextCase) -> Result<String, Fail> {
+    let query = read(alloc, case)?.map_err(|_| "a fault")?.query;
+    Ok(String::from_utf8(print(alloc, &query)?)?)
+}
+
+#[test]
+fn queries_over_whole_numbers_have_texts(rt: HostRuntime) -> Result<(), Fail> {
+    let alloc = rt.alloc();
+    for case in WHOLE {
+        let shown = show_query(alloc, case)?;
         assert_eq!(rt; shown.as_str(), case.2);
     }
     Ok(())

@@ -198,18 +198,24 @@ pub const TEXTS: &[TextCase] = &[
     (
         "input spo2; emit spo2 * 0.000000000000000001 over (0, 600];",
         SPO2,
-        "Scale(ScaleTooLarge(Place { definition: 0, node: 0 }))",
+        "Scale { statement: 2, fault: ScaleTooLarge(Place { definition: 0, node: 0 }) }",
     ),
     // A literal that isn't whole at the scale of the other operand, or too large there; a scale that is missing.
     (
         "input spo2; emit spo2 when spo2 < 96.55 over (0, 600];",
         SPO2,
-        "Scale(LiteralNotWhole(Place { definition: 0, node: 2 }))",
+        "Scale { statement: 2, fault: LiteralNotWhole(Place { definition: 0, node: 2 }) }",
     ),
     (
         "input price; emit price + 92233720368547759 over (0, 600];",
         BOTH,
-        "Scale(LiteralTooLarge(Place { definition: 0, node: 0 }))",
+        "Scale { statement: 2, fault: LiteralTooLarge(Place { definition: 0, node: 0 }) }",
+    ),
+    // The second definition is the fourth statement.
+    (
+        "input spo2; let low = spo2 < 90; input price; emit spo2 when low and spo2 < 96.55 over (0, 600];",
+        BOTH,
+        "Scale { statement: 4, fault: LiteralNotWhole(Place { definition: 1, node: 4 }) }",
     ),
     (
         "input spo2; input pulse; emit spo2 + pulse over (0, 600];",
@@ -231,5 +237,37 @@ pub const TEXTS: &[TextCase] = &[
         "input spo2; emit spo2 * 0.5 + true over (0, 600];",
         SPO2,
         "IllFormed(TypeMismatch { statement: 2 })",
+    ),
+];
+
+/// Texts, scales, and the texts of the queries over whole numbers.
+pub const WHOLE: &[TextCase] = &[
+    // Truth values stay truth values, and names stay names.
+    (
+        "input spo2; let low = ifnull(spo2 < 90.5, false) or true; emit 1 when all(low[t-60:t]) over (0, 600] every 5;",
+        SPO2,
+        "input spo2;\nlet low = ifnull(spo2 < 905, false) or true;\nemit 1 when all(low[t-60:t]) over (0, 600] every 5;\n",
+    ),
+    // What is multiplied: an operand with the smaller scale, also if it is a product.
+    (
+        "input spo2; input price; emit spo2[t-1] + price over (0, 600];",
+        BOTH,
+        "input spo2;\ninput price;\nemit 10 * spo2[t-1] + price over (0, 600];\n",
+    ),
+    (
+        "input spo2; input price; emit if price > 2 * (3 * spo2) then -spo2 else price over (0, 600];",
+        BOTH,
+        "input spo2;\ninput price;\nemit if price > 10 * (2 * (3 * spo2)) then 10 * -spo2 else price over (0, 600];\n",
+    ),
+    (
+        "input price; emit 2 * (price - 0.01) * 1.5 / price over (-5, 600];",
+        BOTH,
+        "input price;\nemit 2 * (price - 1) * 15 / price over (-5, 600];\n",
+    ),
+    // Two literals that are added.
+    (
+        "input price; emit price * (1 + 0.5) over (0, 600];",
+        BOTH,
+        "input price;\nemit price * (10 * 1 + 5) over (0, 600];\n",
     ),
 ];

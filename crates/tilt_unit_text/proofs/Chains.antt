@@ -1,6 +1,7 @@
 -- What is given after several calls.
-use Rattle.std.proofs.Common.{◌≡◌, ◌⊎◌, inl, inr, Result, Ok, Err, refl, sym, ap, subst}
+use Rattle.std.proofs.Common.{◌≡◌, ◌⊎◌, inl, inr, List, Result, Ok, Err, refl, sym, ap, subst}
 use Rattle.tilt_core.specs.Core.{CoreParts}
+use Rattle.tilt_syntax.specs.Tree.{StatementTree}
 use Rattle.tilt_types.specs.declared.fault.CheckFault.{CheckFault}
 use Rattle.tilt_types.specs.declared.fault.CheckFault.TheVariants as check
 use Rattle.tilt_units.specs.Translation.{ScaledQuery}
@@ -26,6 +27,11 @@ pub check_fault : (r : Result CoreParts CheckFault) (f : CheckFault) → (f ≡ 
     → (of_check f ≡ fault.OutOfMemory) ⊎ (with_fault of_check r ≡ Err (of_check f))
 check_fault r f h = elim h [ inl memory ↦ inl (ap of_check memory) | inr e ↦ inr (ap (with_fault of_check) e) ]
 
-pub scale_fault : (r : Result ScaledQuery ScaleFault) (f : ScaleFault) → (f ≡ scale.OutOfMemory) ⊎ (r ≡ Err f)
-    → (of_scale f ≡ fault.OutOfMemory) ⊎ (with_fault of_scale r ≡ Err (of_scale f))
-scale_fault r f h = elim h [ inl memory ↦ inl (ap of_scale memory) | inr e ↦ inr (ap (with_fault of_scale) e) ]
+pub scale_fault : (query : List StatementTree) (r : Result ScaledQuery ScaleFault) (f : ScaleFault) → (f ≡ scale.OutOfMemory) ⊎ (r ≡ Err f)
+    → (of_scale query f ≡ fault.OutOfMemory) ⊎ (with_fault (of_scale query) r ≡ Err (of_scale query f))
+scale_fault query r f h = elim h [ inl memory ↦ inl (ap (of_scale query) memory) | inr e ↦ inr (ap (with_fault (of_scale query)) e) ]
+
+-- a result that is no fault of a text was none before
+pub faultless : {A E : Type 0} (of : E → UnitFault) (r : Result A E) (a : A) → with_fault of r ≡ Ok a → r ≡ Ok a
+faultless of (Ok b) a h = let e : b ≡ a = cc h in ap Ok e
+faultless of (Err f) a h = absurd (cc h)

@@ -155,13 +155,13 @@ large_by : (large : Bool) (f : UnitFault) (rest : Option UnitFault) → (if larg
 large_by true f rest h = absurd (cc h)
 large_by false f rest h = (refl, h)
 
-frames_definitions : (before number : ℕ) (defs ds : List Definition) → HaveFrames before defs ds → AreDefinitions before defs
-    → large_fault number ds ≡ None → AreDefinitions before ds
-frames_definitions before number [] [] h a l = tt
-frames_definitions before number [] (d ∷ ds) h a l = absurd h
-frames_definitions before number (def ∷ defs) [] h a l = absurd h
-frames_definitions before number (def ∷ defs) (d ∷ ds) h a l =
-    let p = large_by (nat_lt 256 (nodes d.body)) _ (large_fault (number + 1) ds) l in
+frames_definitions : (places : List StatementTree) (before number : ℕ) (defs ds : List Definition) → HaveFrames before defs ds
+    → AreDefinitions before defs → large_fault places number ds ≡ None → AreDefinitions before ds
+frames_definitions places before number [] [] h a l = tt
+frames_definitions places before number [] (d ∷ ds) h a l = absurd h
+frames_definitions places before number (def ∷ defs) [] h a l = absurd h
+frames_definitions places before number (def ∷ defs) (d ∷ ds) h a l =
+    let p = large_by (nat_lt 256 (nodes d.body)) _ (large_fault places (number + 1) ds) l in
     let few : nodes d.body ≤ 256 = small (nodes d.body) p.0 in
     let one : IsDefinition before d = record {
       reads = h.2;
@@ -169,13 +169,13 @@ frames_definitions before number (def ∷ defs) (d ∷ ds) h a l =
       stretch = subst (λ o. IsStretch o) (sym h.0) a.0.stretch;
       grid = subst (λ g. IsGrid g) (sym h.1) a.0.grid;
     } in
-    (one, frames_definitions (suc before) (number + 1) defs ds h.3 a.1 p.1) where
+    (one, frames_definitions places (suc before) (number + 1) defs ds h.3 a.1 p.1) where
       small : (n : ℕ) → nat_lt 256 n ≡ false → n ≤ 256
       small n e = grind (arith, nat_tests)
 
-pub whole_core : (core : CoreParts) (ds : List Definition) → IsCore core → HaveFrames (length core.inputs) core.defs ds
-    → large_fault 0 ds ≡ None → IsCore (record { inputs = core.inputs; names = core.names; defs = ds })
-whole_core core ds is h l =
+pub whole_core : (places : List StatementTree) (core : CoreParts) (ds : List Definition) → IsCore core → HaveFrames (length core.inputs) core.defs ds
+    → large_fault places 0 ds ≡ None → IsCore (record { inputs = core.inputs; names = core.names; defs = ds })
+whole_core places core ds is h l =
     let n = frames_length (length core.inputs) core.defs ds h in
     let one = is.one_emitted in
     let few = is.few in
@@ -184,7 +184,7 @@ whole_core core ds is h l =
       few = omega arith;
       distinct = is.distinct;
       named = is.named;
-      definitions = frames_definitions (length core.inputs) 0 core.defs ds h is.definitions l;
+      definitions = frames_definitions places (length core.inputs) 0 core.defs ds h is.definitions l;
       domain = subst IsSome (sym (frames_domain (length core.inputs) core.defs ds h)) is.domain;
     }
 

@@ -1,15 +1,11 @@
 -- If all scales are 1 and no number has a point, a query in units is itself over whole numbers.
-use Rattle.std.proofs.Common.{◌≡◌, ◌⊎◌, inl, inr, ℕ, zero, suc, ◌+◌, ◌≤◌, nat_lt, Bool, true, false, if◌then◌else◌, List, [], ◌∷◌, ◌++◌, length, Option, Some, None, option_map}
+use Rattle.std.proofs.Common.{◌≡◌, inl, inr, ℕ, suc, ◌+◌, ◌≤◌, nat_lt, true, false, List, [], ◌∷◌, ◌++◌, length, Option, Some, None, option_map}
 use Rattle.std.proofs.Common.{Ok, refl, sym, ap, ◌∙◌, subst, arith}
 use Rattle.std.specs.Bool.{⊤}
 use Rattle.std.specs.List.{AllByRecursion, slice_get}
 use Rattle.std.specs.Option.{option_or}
-use Rattle.std.specs.Str.{bytes_eq}
 use Rattle.std.proofs.lemmas.Bool.Decides.{nat_tests}
 use Rattle.std.proofs.lemmas.List.{append_assoc, append-nil}
-use Rattle.std.proofs.lemmas.List.Elements.{Contains-append_right}
-use Rattle.std.proofs.lemmas.Slice.Eq.{bytes_eq-Decides}
-use Rattle.tilt_base.proofs.Comparisons.{same_bytes}
 use Rattle.tilt_base.specs.Expression.{Leaf, One, Two, If}
 use Rattle.tilt_base.specs.declared.span.Span.{Span}
 use Rattle.tilt_core.specs.CoreTree.{Definition, nodes}
@@ -18,14 +14,15 @@ use Rattle.tilt_syntax.specs.Tree.{ExprTree, StatementTree, Num, Truth, Read, Re
 use Rattle.tilt_syntax.specs.declared.every.Every.{Every}
 use Rattle.tilt_types.proofs.Clear.{neither, expr-clear}
 use Rattle.tilt_types.specs.Checked.{definition, definitions, input_names, let_names, place_of}
-use Rattle.tilt_types.specs.Types.{type_declared, type_of}
-use Rattle.tilt_types.specs.WellFormed.{declared_as, declared_by, domain_fault, expr_fault, fault_of, first_fault, is_fitting, name_fault}
+use Rattle.tilt_types.specs.Types.{type_of}
+use Rattle.tilt_types.specs.WellFormed.{declared_as, declared_by, domain_fault, expr_fault, fault_of, first_fault, name_fault}
 use Rattle.tilt_types.specs.declared.declared.Declared.{Declared}
 use Rattle.tilt_types.specs.declared.value_type.ValueType.{ValueType}
 use Rattle.tilt_types.specs.declared.value_type.ValueType.TheVariants as value
 use Rattle.tilt_units.specs.Translation.{ScaledQuery, UnitDefinition, more_definitions, scaled_definition, start_of}
 use Rattle.tilt_units.specs.declared.quantity.Quantity.{Quantity}
 use Rattle.tilt_units.specs.declared.quantity.Quantity.TheVariants as quantity
+use Rattle.tilt_unit_text.proofs.Names.{LastEmits, declared_push, fits, get_end, get_front, place_once}
 use Rattle.tilt_unit_text.proofs.Ones.{AreWhole, HaveTypes, expression_ones, quantity_of}
 use Rattle.tilt_unit_text.specs.Places.{grid_with, query_with, span_with, statement_with, with_numbers}
 use Rattle.tilt_unit_text.specs.Units.{in_units, unit_definition_of, unit_definitions}
@@ -39,43 +36,6 @@ nodes_units names numbers (Leaf (Reduce r x l k)) = refl
 nodes_units names numbers (One op a) = omega (arith, nodes_units names numbers a)
 nodes_units names numbers (Two op a b) = omega (arith, nodes_units names numbers a, nodes_units names numbers b)
 nodes_units names numbers (If c a b) = omega (arith, nodes_units names numbers c, nodes_units names numbers a, nodes_units names numbers b)
-
-place_by : (y : List ℕ) (front : List (List ℕ)) (x : List ℕ) (back : List (List ℕ)) → AreDistinct ((y ∷ front) ++ x ∷ back) → (same : Bool) → bytes_eq y x ≡ same
-    → place_of (front ++ x ∷ back) x ≡ length front → (if same then zero else suc (place_of (front ++ x ∷ back) x)) ≡ suc (length front)
-place_by y front x back h true e r =
-    let is : y ≡ x = (bytes_eq-Decides y x).0 e in
-    absurd (h.0 (Contains-append_right front (x ∷ back) y (zero, omega arith, sym is)))
-place_by y front x back h false e r = ap suc r
-
--- the place of a name that occurs once
-place_once : (front : List (List ℕ)) (x : List ℕ) (back : List (List ℕ)) → AreDistinct (front ++ x ∷ back) → place_of (front ++ x ∷ back) x ≡ length front
-place_once [] x back h = rw (same_bytes x) refl
-place_once (y ∷ front) x back h = place_by y front x back h (bytes_eq y x) refl (place_once front x back h.1)
-
-get_front : (xs ys : List Quantity) (k : ℕ) (q : Quantity) → slice_get xs k ≡ Some q → slice_get (xs ++ ys) k ≡ Some q
-get_front [] ys k q h = absurd (cc h)
-get_front (x ∷ xs) ys zero q h = h
-get_front (x ∷ xs) ys (suc k) q h = get_front xs ys k q h
-
-get_end : (xs : List Quantity) (q : Quantity) → slice_get (xs ++ q ∷ []) (length xs) ≡ Some q
-get_end [] q = refl
-get_end (x ∷ xs) q = get_end xs q
-
--- a name that is declared after one more declaration was declared before, or is that one's
-push_by : (is : Bool) (t a : ValueType) (r s : Option ValueType) {P : Type 0} → (if is then Some t else r) ≡ Some a → (r ≡ Some a → (s ≡ Some a) ⊎ P)
-    → ((if is then Some t else s) ≡ Some a) ⊎ P
-push_by true t a r s h go = inl h
-push_by false t a r s h go = go h
-
-alone_by : (is : Bool) (n y : List ℕ) (t a : ValueType) → bytes_eq n y ≡ is → (if is then Some t else None) ≡ Some a → (n ≡ y) × (t ≡ a)
-alone_by true n y t a e h = ((bytes_eq-Decides n y).0 e, cc h)
-alone_by false n y t a e h = absurd (cc h)
-
-declared_push : (declared : List Declared) (d : Declared) (y : List ℕ) (a : ValueType) → type_declared (declared ++ d ∷ []) y ≡ Some a
-    → (type_declared declared y ≡ Some a) ⊎ ((d.name ≡ y) × (d.value_type ≡ a))
-declared_push [] d y a h = inr (alone_by (bytes_eq d.name y) d.name y d.value_type a refl h)
-declared_push (e ∷ ds) d y a h =
-    push_by (bytes_eq e.name y) e.value_type a (type_declared (ds ++ d ∷ []) y) (type_declared ds y) h (declared_push ds d y a)
 
 module _ (names : List (List ℕ)) (declared : List Declared) (sources : List Quantity) (types : HaveTypes names declared sources) where
   types_more : (more : List Quantity) (x : List ℕ) (t : ValueType) → slice_get (sources ++ more) (place_of names x) ≡ Some (quantity_of t)
@@ -92,18 +52,7 @@ module _ (names : List (List ℕ)) (declared : List Declared) (sources : List Qu
         ];
   }
 
-fits : (emitted : Bool) (o : Option ValueType) → is_fitting emitted o ≡ true → (t : ValueType) × (o ≡ Some t)
-fits emitted None h = absurd (cc h)
-fits emitted (Some t) h = (t, refl)
-
--- only the last statement emits, and expressions are small
-abbrev pub LastEmits : List StatementTree → Type 0
-LastEmits [] = ⊤
-LastEmits (Input x ∷ query) = LastEmits query
-LastEmits (Let x e o g ∷ query) = LastEmits query
-LastEmits (Emit e o g ∷ []) = ⊤
-LastEmits (Emit e o g ∷ s ∷ query) = ⊥
-
+-- expressions are small
 abbrev pub IsSmall : StatementTree → Type 0
 IsSmall (Input x) = ⊤
 IsSmall (Let x e o g) = nodes e ≤ 256

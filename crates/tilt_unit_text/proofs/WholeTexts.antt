@@ -2,11 +2,9 @@
 use Rattle.std.proofs.Common.{◌≡◌, ℕ, zero, suc, ◌+◌, ◌≤◌, ◌<◌, ◌^◌, ℤ, pos, negsuc, neg_ℤ, ◌≤ℤ◌, nat_lt, Bool, true, false, not, cond, if◌then◌else◌, List, [], ◌∷◌, ◌++◌, length}
 use Rattle.std.proofs.Common.{map, Option, Some, None, Result, Ok, refl, sym, ap, ◌∙◌, subst, arith}
 use Rattle.std.specs.List.{AllByRecursion, slice_get}
-use Rattle.std.specs.Str.{bytes_eq}
 use Rattle.std.proofs.lemmas.Bool.Decides.{nat_tests}
 use Rattle.std.proofs.lemmas.Int.{ints}
 use Rattle.std.proofs.lemmas.List.{append_assoc, append-nil}
-use Rattle.tilt_base.proofs.Comparisons.{same_bytes}
 use Rattle.tilt_base.specs.Expression.{Leaf, One, Two, If}
 use Rattle.tilt_base.specs.Number.{within_64_bits}
 use Rattle.tilt_base.specs.declared.span.Span.{Span}
@@ -19,23 +17,25 @@ use Rattle.tilt_lexer.specs.declared.token.Tok.TheVariants.{Word, Number, Key as
 use Rattle.tilt_lexer.specs.declared.token.Token.{Token}
 use Rattle.tilt_lexer.proofs.Sound.{sound}
 use Rattle.tilt_syntax.proofs.Parsing.{sound-kinds}
-use Rattle.tilt_syntax.specs.Query.{AreGood, AreSound, IsQuery, IsQueryOf, kinds, statements}
+use Rattle.tilt_syntax.proofs.Sounds.{statements_sound}
+use Rattle.tilt_syntax.specs.Query.{AreSound, IsQuery, IsQueryOf, kinds, statements}
 use Rattle.tilt_syntax.specs.Text.{IsQueryText}
 use Rattle.tilt_syntax.specs.Tree.{ExprTree, StatementTree, Num, Truth, Read, Reduce, Input, Let, Emit}
 use Rattle.tilt_syntax.specs.declared.every.Every.{Every}
 use Rattle.tilt_types.proofs.CheckedCore.{checked-core}
 use Rattle.tilt_types.proofs.Distinct.{source_names-distinct}
 use Rattle.tilt_types.proofs.Texts.{IsOfText, query-of_text, sources-few}
-use Rattle.tilt_types.specs.Checked.{checked, core_of, core_unless, definitions, input_names, let_names, numbered, place_of, source_names}
+use Rattle.tilt_types.specs.Checked.{checked, core_of, definitions, input_names, let_names, numbered, place_of, source_names}
 use Rattle.tilt_types.specs.WellFormed.{first_fault}
-use Rattle.tilt_types.specs.declared.fault.CheckFault.{CheckFault}
 use Rattle.tilt_units.specs.Translation.{ScaledQuery, UnitDefinition, input_quantities, translated}
 use Rattle.tilt_units.specs.declared.quantity.Quantity.{Quantity}
 use Rattle.tilt_units.specs.declared.quantity.Quantity.TheVariants as quantity
 use Rattle.tilt_unit_text.proofs.Numbered.{counted_with}
 use Rattle.tilt_unit_text.proofs.Ones.{AreWhole, HaveTypes}
 use Rattle.tilt_unit_text.proofs.PlacedQueries.{query_before}
-use Rattle.tilt_unit_text.proofs.WholeQueries.{Done, IsSmall, LastEmits, all_done}
+use Rattle.tilt_unit_text.proofs.Names.{LastEmits, last_emits, long_is, no_check, place_front}
+use Rattle.tilt_unit_text.proofs.Unchanged.{none_long, statements_same}
+use Rattle.tilt_unit_text.proofs.WholeQueries.{Done, IsSmall, all_done}
 use Rattle.tilt_unit_text.specs.Numbers.{Progress, more_noted, noted, number_in}
 use Rattle.tilt_unit_text.specs.Places.{counted, decimals_of, digits_at, digits_of, expression_fault, grid_fault, number_at, query_fault, query_with, span_fault, statement_fault}
 use Rattle.tilt_unit_text.specs.Places.{ticks_fault, whole_fault}
@@ -178,15 +178,6 @@ get_ones [] k h = absurd (omega arith)
 get_ones (x ∷ names) zero h = refl
 get_ones (x ∷ names) (suc k) h = get_ones names k (omega arith)
 
--- a name has a place among names that contain it
-place_by : (is : Bool) (n m : ℕ) → n < m → (if is then zero else suc n) < suc m
-place_by true n m h = omega arith
-place_by false n m h = omega arith
-
-place_front : (front : List (List ℕ)) (x : List ℕ) (back : List (List ℕ)) → place_of (front ++ x ∷ back) x < suc (length front)
-place_front [] x back = rw (same_bytes x) (omega arith)
-place_front (y ∷ front) x back = place_by (bytes_eq y x) (place_of (front ++ x ∷ back) x) (suc (length front)) (place_front front x back)
-
 inputs_ones : (front inputs lets : List (List ℕ)) (all : List (List ℕ)) → all ≡ front ++ inputs
     → AllByRecursion (λ x. slice_get (input_quantities (ones all)) (place_of (all ++ lets) x) ≡ Some (quantity.Number 1)) inputs
 inputs_ones front [] lets all e = tt
@@ -197,22 +188,9 @@ inputs_ones front (x ∷ inputs) lets all e =
     let long : length all ≡ length front + suc (length inputs) = ap length e ∙ long_is front x inputs in (
       get_ones all (place_of (all ++ lets) x) (omega arith),
       inputs_ones (front ++ x ∷ []) inputs lets all (e ∙ sym (append_assoc front (x ∷ []) inputs)),
-    ) where
-      long_is : (front : List (List ℕ)) (x : List ℕ) (inputs : List (List ℕ)) → length (front ++ x ∷ inputs) ≡ length front + suc (length inputs)
-      long_is [] x inputs = omega arith
-      long_is (y ∷ front) x inputs = let n = long_is front x inputs in omega arith
+    )
 
 -- what a text keeps of its query
-last_emits : (ss : List (List Tok)) (query : List StatementTree) → AreGood ss query → LastEmits query
-last_emits [] [] g = tt
-last_emits [] (s ∷ query) g = absurd g
-last_emits (ts ∷ ss) [] g = absurd g
-last_emits (ts ∷ ss) (Input x ∷ query) g = last_emits ss query g.1
-last_emits (ts ∷ ss) (Let x e o h ∷ query) g = last_emits ss query g.1
-last_emits (ts ∷ ss) (Emit e o h ∷ []) g = tt
-last_emits (ts ∷ []) (Emit e o h ∷ s ∷ query) g = absurd g.1
-last_emits (ts ∷ us ∷ ss) (Emit e o h ∷ s ∷ query) g = absurd g.0.in_place
-
 small_query : (query : List StatementTree) → AllByRecursion IsOfText query → AllByRecursion IsSmall query
 small_query [] h = tt
 small_query (Input x ∷ query) h = (tt, small_query query h.1)
@@ -231,16 +209,12 @@ nodes_numbered names (If c a b) = omega (arith, nodes_numbered names c, nodes_nu
 not_large : (names : List (List ℕ)) (e : ExprTree) → nodes e ≤ 256 → nat_lt 256 (nodes (numbered names e)) ≡ false
 not_large names e h = let n = nodes_numbered names e in grind (arith, nat_tests)
 
-none_large : (names : List (List ℕ)) (query : List StatementTree) (number : ℕ) → AllByRecursion IsSmall query
-    → large_fault number (definitions names query) ≡ None
-none_large names [] number h = refl
-none_large names (Input x ∷ query) number h = none_large names query number h.1
-none_large names (Let x e o g ∷ query) number h = rw (not_large names e h.0) (none_large names query (number + 1) h.1)
-none_large names (Emit e o g ∷ query) number h = rw (not_large names e h.0) (none_large names query (number + 1) h.1)
-
-no_check : (f : Option CheckFault) (made core : CoreParts) → core_unless f made ≡ Ok core → f ≡ None
-no_check None made core h = refl
-no_check (Some fault) made core h = absurd (cc h)
+none_large : (names : List (List ℕ)) (query places : List StatementTree) (number : ℕ) → AllByRecursion IsSmall query
+    → large_fault places number (definitions names query) ≡ None
+none_large names [] places number h = refl
+none_large names (Input x ∷ query) places number h = none_large names query places number h.1
+none_large names (Let x e o g ∷ query) places number h = rw (not_large names e h.0) (none_large names query places (number + 1) h.1)
+none_large names (Emit e o g ∷ query) places number h = rw (not_large names e h.0) (none_large names query places (number + 1) h.1)
 
 units_length : (names : List (List ℕ)) (numbers : List Written) (places : List StatementTree) (defs : List Definition)
     → length (unit_definitions names numbers places defs) ≤ length defs
@@ -299,16 +273,28 @@ translated_ones numbers all query places same is none =
 -- the answer for its tokens
 answer_ones : (scales : List InputScale) (numbers : List Written) → AllByRecursion IsWhole numbers → (query places : List StatementTree)
     → query_with numbers places ≡ query → IsQuery query → checked query ≡ Ok (core_of query) → HaveScaleOne scales (input_names query)
-    → (quantities : List Quantity) × (query_in_units scales numbers query places ≡ Ok (record { core = core_of query; quantities = quantities }))
+    → (quantities : List Quantity) × (query_in_units scales numbers query places ≡ Ok (record { query = query; core = core_of query; quantities = quantities }))
 answer_ones scales numbers all query places same is check one =
     let none = no_check (first_fault 1 [] query) (core_of query) (core_of query) check in
     let t = translated_ones numbers all query places same is none in
     let small = small_query query (query-of_text query is) in
-    (t.quantities, rw (no_query numbers all places, check, scales_ones scales [] (input_names query) one, t.is, none_large (source_names query) query 0 small) refl)
+    let names = source_names query in
+    let long = none_long (statements is.tokens) query 1 is.parsed.good (statements_sound is.tokens is.sound) in (
+      t.quantities,
+      rw (
+        no_query numbers all places,
+        check,
+        scales_ones scales [] (input_names query) one,
+        t.is,
+        none_large names query query 0 small,
+        statements_same names query,
+        long,
+      ) refl,
+    )
 
 pub whole_text : (scales : List InputScale) (text : List ℕ) (q : List StatementTree) (core : CoreParts) → points_of text ≡ [] → IsQueryText text q
     → checked q ≡ Ok core → HaveScaleOne scales core.inputs
-    → (quantities : List Quantity) × Reads scales text (Ok (record { core = core; quantities = quantities }))
+    → (quantities : List Quantity) × Reads scales text (Ok (record { query = q; core = core; quantities = quantities }))
 whole_text scales text q core none is check one =
     let plain = plain_is 0 text none in
     let lexed : AreTokens 0 (without_points text) is.tokens = subst (λ (t : List ℕ). AreTokens 0 t is.tokens) (sym plain) is.lexed in
@@ -327,6 +313,6 @@ whole_text scales text q core none is check one =
     let answer : Reads scales text (query_in_units scales numbers q before.places) =
     reading.tokens is.tokens lexed (reading.query numbers q before.places there is.parsed before.is) in (
       a.0,
-      subst (λ (c : CoreParts). Reads scales text (Ok (record { core = c; quantities = a.0 }))) core_is
+      subst (λ (c : CoreParts). Reads scales text (Ok (record { query = q; core = c; quantities = a.0 }))) core_is
           (subst (λ (r : Result UnitParts UnitFault). Reads scales text r) a.1 answer),
     )

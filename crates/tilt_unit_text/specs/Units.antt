@@ -1,7 +1,8 @@
 -- The query over whole numbers that a text in units is, over the scales of its inputs (our own rule).
-use Rattle.std.specs.Prelude.{◌≡◌, ⊤, ℕ, ℤ, suc, ◌+◌, nat_lt, if◌then◌else◌, List, [], ◌∷◌, ◌++◌, length, Option, Some, None, Result}
+use Rattle.std.specs.Prelude.{◌≡◌, ⊤, ℕ, ℤ, zero, suc, ◌+◌, nat_lt, if◌then◌else◌, List, [], ◌∷◌, ◌++◌, length, Option, Some, None, Result}
 use Rattle.std.specs.Prelude.{Ok, Err}
 use Rattle.std.specs.List.{AllByRecursion}
+use Rattle.std.specs.Option.{option_or}
 use Rattle.std.specs.Str.{bytes_eq}
 use Rattle.tilt_base.specs.Expression.{Leaf, One, Two, If}
 use Rattle.tilt_core.specs.Core.{CoreParts, ReadsBelow}
@@ -18,8 +19,10 @@ use Rattle.tilt_units.specs.declared.decimal.Decimal.{Decimal}
 use Rattle.tilt_units.specs.declared.fault.ScaleFault.{ScaleFault}
 use Rattle.tilt_units.specs.declared.fault.ScaleFault.TheVariants as scale
 use Rattle.tilt_units.specs.declared.quantity.Quantity.{Quantity}
+use Rattle.tilt_unit_text.specs.Named.{whole_statements}
 use Rattle.tilt_unit_text.specs.Numbers.{and_then, smallest, unless}
 use Rattle.tilt_unit_text.specs.Places.{decimals_of, digits_at, number_at, query_fault}
+use Rattle.tilt_unit_text.specs.Size.{long_fault}
 use Rattle.tilt_unit_text.specs.declared.fault.UnitFault.{UnitFault}
 use Rattle.tilt_unit_text.specs.declared.fault.UnitFault.TheVariants as fault
 use Rattle.tilt_unit_text.specs.declared.input_scale.InputScale.{InputScale}
@@ -28,12 +31,13 @@ use Rattle.tilt_unit_text.specs.declared.written.Written.{Written}
 
 -- a query over whole numbers, and what each of its sources represents
 pub record UnitParts : Type 0 where
+  pub query : List StatementTree
   pub core : CoreParts
   pub quantities : List Quantity
 
 -- the same in memory
 abbrev pub parts_of : UnitQuery → UnitParts
-parts_of q = record { core = q.core; quantities = q.quantities.items }
+parts_of q = record { query = q.query; core = q.core; quantities = q.quantities.items }
 
 -- the faults of the crates below, as faults of a text in units
 abbrev pub of_syntax : SyntaxFault → UnitFault
@@ -44,9 +48,30 @@ abbrev pub of_check : CheckFault → UnitFault
 of_check check.OutOfMemory = fault.OutOfMemory
 of_check f = fault.IllFormed f
 
-abbrev pub of_scale : ScaleFault → UnitFault
-of_scale scale.OutOfMemory = fault.OutOfMemory
-of_scale f = fault.Scale f
+-- the number of the definition that a fault is in; 0 if it is in none
+abbrev pub definition_with : ScaleFault → ℕ
+definition_with (scale.UnknownSource place) = place.definition
+definition_with (scale.TypeMismatch place) = place.definition
+definition_with (scale.ScalesDiffer place) = place.definition
+definition_with (scale.LiteralNotWhole place) = place.definition
+definition_with (scale.LiteralTooLarge place) = place.definition
+definition_with (scale.ScaleTooLarge place) = place.definition
+definition_with (scale.BodyTooLarge place) = place.definition
+definition_with scale.TooManySources = 0
+definition_with scale.OutOfMemory = 0
+
+-- the number of the statement that is the definition with a number, if the first statement has the number `n`
+abbrev pub statement_of : ℕ → List StatementTree → ℕ → ℕ
+statement_of n [] number = n
+statement_of n (Input name ∷ query) number = statement_of (n + 1) query number
+statement_of n (Let name e over every ∷ query) zero = n
+statement_of n (Let name e over every ∷ query) (suc number) = statement_of (n + 1) query number
+statement_of n (Emit e over every ∷ query) zero = n
+statement_of n (Emit e over every ∷ query) (suc number) = statement_of (n + 1) query number
+
+abbrev pub of_scale : List StatementTree → ScaleFault → UnitFault
+of_scale query scale.OutOfMemory = fault.OutOfMemory
+of_scale query f = fault.Scale (statement_of 1 query (definition_with f)) f
 
 -- a result with its fault as a fault of a text in units
 abbrev pub with_fault : {A E : Type 0} → (E → UnitFault) → Result A E → Result A UnitFault
@@ -108,18 +133,25 @@ abbrev pub more_scales : List InputScale → List ℕ → List (List ℕ) → Re
 more_scales scales so_far [] = Ok so_far
 more_scales scales so_far (name ∷ names) = and_then (with_scale so_far (scale_named scales name)) (λ next. more_scales scales next names)
 
--- the fault of the first of more definitions, after so many, of which the expression over whole numbers has more than 256 nodes
-abbrev pub large_fault : ℕ → List Definition → Option UnitFault
-large_fault number [] = None
-large_fault number (def ∷ defs) =
-    if nat_lt 256 (nodes def.body) then Some (fault.WholeTooLarge number) else large_fault (number + 1) defs
+-- the fault of the first of more definitions of a query, after so many, of which the expression over whole numbers has more than 256 nodes
+abbrev pub large_fault : List StatementTree → ℕ → List Definition → Option UnitFault
+large_fault query number [] = None
+large_fault query number (def ∷ defs) =
+    if nat_lt 256 (nodes def.body) then Some (fault.WholeTooLarge (statement_of 1 query number))
+    else large_fault query (number + 1) defs
 
--- the core of a query over whole numbers with the names of a core
-abbrev pub whole_query : CoreParts → ScaledQuery → Result UnitParts UnitFault
-whole_query core query = unless (large_fault 0 query.defs) (record {
-  core = record { inputs = core.inputs; names = core.names; defs = query.defs };
-  quantities = query.quantities;
-})
+-- a query over whole numbers with the statements and the names of a query and its core
+abbrev pub whole_parts : List StatementTree → CoreParts → ScaledQuery → UnitParts
+whole_parts query core whole = record {
+  query = whole_statements query whole.defs;
+  core = record { inputs = core.inputs; names = core.names; defs = whole.defs };
+  quantities = whole.quantities;
+}
+
+-- the same, unless an expression has too many nodes, or a statement takes too many tokens
+abbrev pub whole_query : List StatementTree → CoreParts → ScaledQuery → Result UnitParts UnitFault
+whole_query query core whole =
+    unless (option_or (large_fault query 0 whole.defs) (long_fault 1 (whole_statements query whole.defs))) (whole_parts query core whole)
 
 -- definitions over whole numbers have the spans and the grids of definitions, and each reads only sources before it, of which there are so many
 abbrev pub HaveFrames : ℕ → List Definition → List Definition → Type 0
@@ -133,17 +165,17 @@ HaveFrames before (def ∷ defs) (d ∷ ds) =
 abbrev pub IsTranslation : CoreParts → ScaledQuery → Type 0
 IsTranslation core query = HaveFrames (length core.inputs) core.defs query.defs
 
--- what a core is over whole numbers, whose query with each number as its count is this
-abbrev pub core_in_units : List InputScale → List Written → List StatementTree → CoreParts → Result UnitParts UnitFault
-core_in_units scales numbers places core =
+-- what a query with a core is over whole numbers, which with each number as its count is this
+abbrev pub core_in_units : List InputScale → List Written → (query places : List StatementTree) → CoreParts → Result UnitParts UnitFault
+core_in_units scales numbers query places core =
     and_then (more_scales scales [] core.inputs) (λ parts.
-    and_then (with_fault of_scale (translated parts (unit_definitions (core.inputs ++ core.names) numbers places core.defs)))
-    (λ query. whole_query core query))
+    and_then (with_fault (of_scale places) (translated parts (unit_definitions (core.inputs ++ core.names) numbers places core.defs)))
+    (λ whole. whole_query query core whole))
 
 -- what a query without a fault in its numbers of ticks is over whole numbers
 abbrev pub checked_in_units : List InputScale → List Written → List StatementTree → List StatementTree → Result UnitParts UnitFault
 checked_in_units scales numbers query places =
-    and_then (with_fault of_check (checked query)) (λ core. core_in_units scales numbers places core)
+    and_then (with_fault of_check (checked query)) (λ core. core_in_units scales numbers query places core)
 
 -- what a query is over whole numbers
 abbrev pub query_in_units : List InputScale → List Written → List StatementTree → List StatementTree → Result UnitParts UnitFault

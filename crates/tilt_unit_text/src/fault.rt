@@ -34,12 +34,16 @@ pub enum UnitFault {
     /// No scale is given for the input with this number, counted from 0.
     #[error("input {input} has no scale: give its scale, 1 for whole numbers")]
     NoScale { input: u32 },
-    /// The query has no translation to whole numbers. It is never an out-of-memory fault.
-    #[error("{0}")]
-    Scale(ScaleFault),
-    /// Over whole numbers, the expression of the definition with this number, counted from 0, has more than 256 nodes. Split it.
-    #[error("definition {definition} has more than 256 nodes over whole numbers: split it")]
-    WholeTooLarge { definition: u32 },
+    /// The query has no translation to whole numbers, since the statement with this number, counted from 1, has this fault. It is never
+    /// an out-of-memory fault.
+    #[error("statement {statement}: {fault}")]
+    Scale { statement: u32, fault: ScaleFault },
+    /// Over whole numbers, the expression of the statement with this number, counted from 1, has more than 256 nodes. Split it.
+    #[error("statement {statement} has more than 256 nodes over whole numbers: split it")]
+    WholeTooLarge { statement: u32 },
+    /// Over whole numbers, no text of the statement with this number, counted from 1, has at most 256 tokens. Split it.
+    #[error("statement {statement} takes more than 256 tokens over whole numbers: split it")]
+    WholeTooLong { statement: u32 },
     /// There was no memory for the query.
     #[error("out of memory")]
     OutOfMemory,
@@ -77,20 +81,6 @@ impl From<CheckFault> for UnitFault {
         match check {
             CheckFault::OutOfMemory => UnitFault::OutOfMemory,
             other => UnitFault::IllFormed(other),
-        }
-    }
-}
-
-impl From<ScaleFault> for UnitFault {
-    ghost use Rattle.std.specs.Prelude.{◌≡◌};
-    ghost use Rattle.tilt_unit_text.specs.Units.{of_scale};
-
-    ghost from_gives = { λ scale fault. fault ≡ of_scale scale };
-
-    fn from(scale: ScaleFault) -> Self {
-        match scale {
-            ScaleFault::OutOfMemory => UnitFault::OutOfMemory,
-            other => UnitFault::Scale(other),
         }
     }
 }

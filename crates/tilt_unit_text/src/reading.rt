@@ -1,14 +1,15 @@
 // From a text in units to the query over whole numbers that it is.
-ghost use Rattle.std.specs.Prelude.{◌≡◌, ◌^◌, ◌<◌, ◌++◌, List, All, IfOk, MatchResult, Result};
+ghost use Rattle.std.specs.Prelude.{◌≡◌, ◌^◌, ◌<◌, ◌++◌, List, All, IfOk, MatchResult, Ok, Result, map};
 ghost use Rattle.tilt_lexer.specs.Tokens.{IsSound};
 ghost use Rattle.tilt_syntax.specs.Query.{IsQueryOf, kinds};
 ghost use Rattle.tilt_syntax.specs.Tree.{StatementTree};
-ghost use Rattle.tilt_types.specs.Checked.{core_of};
+ghost use Rattle.tilt_types.specs.Checked.{checked};
 ghost use Rattle.tilt_unit_text.specs.Numbers.{IsWritten};
 ghost use Rattle.tilt_unit_text.specs.Places.{counted, query_with};
 ghost use Rattle.tilt_unit_text.specs.Points.{IsToken};
 ghost use Rattle.tilt_unit_text.specs.Reading.{Gives, GivesAnswer, GivesReading, Reads};
-ghost use Rattle.tilt_unit_text.specs.Units.{UnitParts, checked_in_units, core_in_units, parts_of, query_in_units};
+ghost use Rattle.tilt_units.specs.Translation.{query_of, translated, unit_definition};
+ghost use Rattle.tilt_unit_text.specs.Units.{UnitParts, checked_in_units, core_in_units, of_scale, parts_of, query_in_units, with_fault};
 ghost use Rattle.tilt_unit_text.specs.declared.fault.UnitFault.{UnitFault};
 
 use crate::definitions::unit_definitions;
@@ -18,6 +19,7 @@ use crate::noted::note_numbers;
 use crate::places::{count_numbers, query_fault};
 use crate::points::{fault_in_text, find_points, without_points};
 use crate::scales::scales_of;
+use crate::statement::of_scale;
 use crate::unit_query::UnitQuery;
 use crate::whole::{push_names, whole_query};
 use crate::written::Written;
@@ -26,15 +28,15 @@ use tilt_core::Core;
 use tilt_lexer::{Name, Token, lex};
 use tilt_syntax::{Query, parse};
 use tilt_types::check;
-use tilt_units::translate;
+use tilt_units::{DecimalDef, Scale, Translated, translate};
 
 /// The query over whole numbers that a text in units is, if its inputs have these scales; or the first fault. Of the first of these
 /// causes there is a fault. `BadByte`, `BigNumber`: the text without its points has no tokens, at its first faulty place. `BadPoint`,
 /// `ManyDecimals`: a point isn't between two digits of a number, or too many digits come after it, at the first point with a fault.
 /// `Syntax`: the text without its points isn't a query. `TicksWithPoint`: a number of ticks has a point, in the order of statements.
 /// `IllFormed`: the query isn't well formed. `NoScale`: no scale is given for an input, in the order of inputs. `Scale`: the query has
-/// no translation. `WholeTooLarge`: an expression has too many nodes over whole numbers. Scales of other names than the inputs' are
-/// not read. Memory is taken for all tokens of the text.
+/// no translation. `WholeTooLarge`: an expression has too many nodes over whole numbers. `WholeTooLong`: a statement takes too many
+/// tokens over whole numbers. Scales of other names than the inputs' are not read. Memory is taken for all tokens of the text.
 pub fn read_in_units(
     alloc: Global,
     text: &[u8],
@@ -112,26 +114,43 @@ fn checked_in_units(
     ensures { Gives parts_of result (checked_in_units scales.now numbers.now query.now places.now) }
 {
     let core = check(alloc, query)?;
-    core_in_units(alloc, scales, numbers, places, &core)
+    core_in_units(alloc, scales, numbers, query, places, &core)
 }
 
-// What a core is over whole numbers, whose query with each number as its count is this.
+// What a query with a core is over whole numbers, which with each number as its count is this.
 fn core_in_units(
     alloc: Global,
     scales: &[InputScale],
     numbers: &[Written],
+    query: &Query,
     places: &Query,
     core: &Core,
 ) -> Result<UnitQuery, UnitFault>
     requires written { All IsWritten numbers.now }
-    requires placed { core.now ≡ core_of (query_with numbers.now places.now) }
-    ensures { Gives parts_of result (core_in_units scales.now numbers.now places.now core.now) }
+    requires placed { query_with numbers.now places.now ≡ query.now }
+    requires checked { checked query.now ≡ Ok core.now }
+    ensures { Gives parts_of result (core_in_units scales.now numbers.now query.now places.now core.now) }
 {
     let parts = scales_of(alloc, scales, core.inputs())?;
     let names = source_names(alloc, core)?;
     let units = unit_definitions(alloc, &names, numbers, places.statements(), core.defs())?;
-    let translated = translate(alloc, &parts, &units)?;
-    whole_query(alloc, core, translated)
+    let translated = translate_units(alloc, places, &parts, &units)?;
+    whole_query(alloc, query, core, translated)
+}
+
+// The translation of definitions in units, of a query in which each number is its count.
+fn translate_units(
+    alloc: Global,
+    places: &Query,
+    parts: &[Scale],
+    units: &[DecimalDef],
+) -> Result<Translated, UnitFault>
+    ensures { Gives query_of result (with_fault (of_scale places.now) (translated parts.now (map unit_definition units.now))) }
+{
+    match translate(alloc, parts, units) {
+        Ok(translated) => Ok(translated),
+        Err(fault) => Err(of_scale(places.statements(), fault)),
+    }
 }
 
 // The names of the sources: the inputs in order, and after them the definitions that have names.

@@ -1,5 +1,7 @@
 // The scales of inputs.
-ghost use Rattle.std.specs.Prelude.{◌≡◌, ◌^◌, ◌<◌, [], ◌++◌, ◌∷◌, OnOk, length};
+ghost use Rattle.std.specs.Prelude.{◌≡◌, ◌^◌, ◌<◌, [], ◌++◌, ◌∷◌, IfOk, OnOk, length};
+ghost use Rattle.std.specs.List.{AllByRecursion};
+ghost use Rattle.tilt_units.specs.Scale.{IsScale};
 ghost use Rattle.tilt_unit_text.specs.Reading.{Gives};
 ghost use Rattle.tilt_unit_text.specs.Units.{more_scales, scale_named, with_scale};
 
@@ -16,7 +18,8 @@ pub(crate) fn scales_of(
     names: &[Name],
 ) -> Result<Vec<Scale>, UnitFault>
     requires { length names.now < 2 ^ 32 }
-    ensures { Gives (λ parts. parts.items) result (more_scales scales.now [] names.now) }
+    ensures gives { Gives (λ parts. parts.items) result (more_scales scales.now [] names.now) }
+    ensures small { IfOk result (λ parts. AllByRecursion IsScale parts.items) }
 {
     let mut parts = Vec::new(alloc);
     for name in names {
@@ -27,8 +30,10 @@ pub(crate) fn scales_of(
 
 // Adds one more scale, if there is one.
 fn push_scale(parts: &mut Vec<Scale>, scale: Option<Scale>) -> Result<(), UnitFault>
-    requires { length parts.old.items < 2 ^ 32 }
-    ensures { Gives (λ _. parts.new.items) result (with_scale parts.old.items scale) }
+    requires few { length parts.old.items < 2 ^ 32 }
+    requires scales { AllByRecursion IsScale parts.old.items }
+    ensures gives { Gives (λ _. parts.new.items) result (with_scale parts.old.items scale) }
+    ensures small { OnOk result (AllByRecursion IsScale parts.new.items) }
 {
     let Some(scale) = scale else {
         return Err(UnitFault::NoScale {
@@ -40,8 +45,11 @@ fn push_scale(parts: &mut Vec<Scale>, scale: Option<Scale>) -> Result<(), UnitFa
 
 // Adds one more scale.
 fn push_one(parts: &mut Vec<Scale>, scale: Scale) -> Result<(), OutOfMemory>
-    ensures { OnOk result (parts.new.items ≡ parts.old.items ++ scale ∷ []) }
+    requires { AllByRecursion IsScale parts.old.items }
+    ensures items { OnOk result (parts.new.items ≡ parts.old.items ++ scale ∷ []) }
+    ensures small { OnOk result (AllByRecursion IsScale parts.new.items) }
 {
+    prove!(scale.parts() > 0);
     parts.push(scale)?;
     Ok(())
 }
