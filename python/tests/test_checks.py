@@ -12,7 +12,9 @@ from shared.tally import Tally
 
 from check import data, examples, worked_feeds
 from check.faults import run as faults
-from check.feeds import line_text
+from check.feeds import InputFeed, line_text
+from check.live import BadLine
+from check.readings import Form, Readings
 
 
 @pytest.fixture
@@ -219,3 +221,42 @@ def test_worked_feeds_find_a_program_that_prints_nothing(tmp_path, capsys):
     assert "expected: ['0,2,5']\ncame: []" in capsys.readouterr().out
     worked_feeds.check_worked(dataclasses.replace(worked, out="start,end,value\n0,1,5\n"), False, str(program), 10, tally)
     assert tally.failed == 7
+
+
+@pytest.mark.parametrize(
+    "options, known",
+    [
+        ({"ties": "first"}, InputFeed([(1, 3, 5), (3, 9, 6)], None, 10)),
+        ({"ties": "last"}, InputFeed([(1, 3, 5)], (3, 7), 9)),
+        ({"ties": "spread"}, InputFeed([(1, 3, 5), (3, 4, 6), (4, 9, 7)], None, 10)),
+        ({"ties": "first", "event": True}, InputFeed([(1, 2, 5), (3, 4, 6)], None, 10)),
+        ({"ties": "last", "max_age": 2}, InputFeed([(1, 3, 5), (3, 5, 7)], None, 9)),
+        ({"ties": "first", "closed": "right"}, InputFeed([(0, 3, 5), (3, 8, 6)], None, 9)),
+        ({"ties": "first", "skip_empty": True}, InputFeed([(1, 3, 5)], (3, 6), 4)),
+    ],
+)
+def test_rows_of_readings(options, known):
+    readings = Readings(Form(time="t", unit="s", **options), ["x"])
+    for line in (b"t,x", b"1,5", b"3.5,6", b"3.9,7", b"9,"):
+        readings.take(line)
+    assert readings.feed().inputs == {"x": known}
+
+
+def test_a_bad_reading_changes_nothing():
+    readings = Readings(Form(time="t", name="n", value="v", unit="s", scales={"x": 10}), ["x", "y"])
+    with pytest.raises(BadLine, match="91 line {}: no column of names"):
+        readings.take(b"t,x,y")
+    for line in (b"v,t,n", b'"0.5",1,x', b",4,", b",3,"):
+        readings.take(line)
+    feed = readings.feed()
+    assert feed.inputs == {"x": InputFeed([], (1, 5), 4), "y": InputFeed([], None, 4)}
+    for line, report in {
+        b"1,3.9,x": "102 line {}: late reading of input 1",
+        b"0.25,5,x": "98 line {}: bad value of input 1: digits would be lost",
+        b"1,5,": "97 line {}: no name",
+        b"1,5,y,": "94 line {}: not 3 fields",
+        b"1,x,y": "95 line {}: bad time: not a number",
+    }.items():
+        with pytest.raises(BadLine) as bad:
+            readings.take(line)
+        assert str(bad.value) == report and readings.feed() == feed

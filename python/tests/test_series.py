@@ -91,6 +91,7 @@ def test_nulls(told):
     text = "time,temp\n2026-03-01T00:00:01,1\n2026-03-01T00:00:02,\n2026-03-01T00:00:03,NaN\n2026-03-01T00:00:04,-1\n"
     rows, _ = series(told, text, "--tick", "1s", "--null", "NaN,-1")
     assert rows == [(1, 2, 1), (2, 3, None), (3, 4, None), (4, 5, None)]
+    assert series(told, text.replace("NaN", " NaN ").replace("-1", "\t-1"), "--tick", "1s", "--null", "NaN,-1")[0] == rows
     rows, _ = series(told, text, "--tick", "1s", "--null", "NaN,-1", "--skip-empty")
     assert rows == [(1, 2, 1)]
     assert refused(told, text, "--tick", "1s").startswith("raw.csv:4: temp: 'NaN' is no number; if it means")

@@ -428,6 +428,12 @@ def test_words_of_a_manual_page(tree):
     ]
 
 
+def test_a_synopsis_is_no_sentence(tree):
+    tree.write("docs/b.1", ".SH B\nA text.\n")
+    tree.write("docs/a.1", ".SH SYNOPSIS\n" + ".RB [ --told ]\n" * 40 + ".SH B\nIt tells.\n")
+    assert tree.faults(texts.check_texts) == ['docs/a.1:43: "tells": write prints, reports, shows or means']
+
+
 def test_a_long_sentence_of_a_manual_page(tree):
     tree.write("docs/b.1", ".SH B\nA text.\n")
     tree.write("docs/a.1", ".SH A\nOne.\nThen\n" + ".B one\n" * 30 + ".PP\nLast.\n")

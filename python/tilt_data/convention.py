@@ -179,7 +179,7 @@ class TextConvention(Convention):
         return f"{option} {name}=.." if name else option
 
     def is_missing(self, text: str) -> bool:
-        return not text or text in self.null or not text.strip()
+        return not text or text in self.null or (bare := text.strip()) == "" or bare in self.null
 
     def scale_of(self, name: str) -> int | None:
         own = super().scale_of(name)

@@ -75,8 +75,8 @@ class BadLine(Exception):
 # What a line says
 
 
-def records_of(line: bytes) -> list[list[bytes]]:
-    """The records of CSV in a line: fields between commas, quotes around a field, and a CR or an LF after a record. An empty record is
+def records_of(line: bytes, delimiter: bytes = b",") -> list[list[bytes]]:
+    """The records of CSV in a line: fields between delimiters, quotes around a field, and a CR or an LF after a record. An empty record is
     none."""
     records: list[list[bytes]] = []
     fields: list[bytes] = []
@@ -85,7 +85,7 @@ def records_of(line: bytes) -> list[list[bytes]]:
         if not inside and line[at : at + 1] in (b"\r", b"\n"):
             at += 1
             continue
-        text, at, ends = next_field(line, at)
+        text, at, ends = next_field(line, at, delimiter)
         fields.append(text)
         inside = not ends
         if ends:
@@ -94,7 +94,7 @@ def records_of(line: bytes) -> list[list[bytes]]:
     return [*records, [*fields, b""]] if inside else records
 
 
-def next_field(line: bytes, at: int) -> tuple[bytes, int, bool]:
+def next_field(line: bytes, at: int, delimiter: bytes) -> tuple[bytes, int, bool]:
     """The field at a place, the place after it and what ends it, and whether the record ends there too."""
     text = b""
     if line[at : at + 1] == b'"':
@@ -109,10 +109,10 @@ def next_field(line: bytes, at: int) -> tuple[bytes, int, bool]:
             text += b'"'
             at += 1
         at = min(at, len(line))
-    rest = re.match(rb"[^,\r\n]*", line[at:])
+    rest = re.match(rb"[^%s\r\n]*" % re.escape(delimiter), line[at:])
     assert rest is not None
     at += len(rest[0])
-    return text + rest[0], at + 1, line[at : at + 1] != b","
+    return text + rest[0], at + 1, line[at : at + 1] != delimiter
 
 
 def number_of(text: bytes, otherwise: str) -> int:

@@ -52,15 +52,29 @@ LINES = [
     ",,20,\n",
     ",,,\n",
 ]
+READINGS = ["--time", "time", "--name", "sensor", "--value", "value", "--tick", "1s", "--origin", "2026-03-01T00:00:00Z", "--scale", "10"]
+LINES_OF_READINGS = [
+    "time,sensor,value\n",
+    "2026-03-01T00:00:00Z,load,0.3\n",
+    "2026-03-01T01:00:00+01:00,limit,0.5\n",
+    "2026-03-01T00:00:04Z,,\n",
+    "yesterday,load,0.6\n",
+    "2026-03-01T00:00:04Z,load,0.9\n",
+    "2026-03-01T00:00:12.5Z,,\n",
+    "2026-03-01T00:00:02Z,load,0.1\n",
+    "2026-03-01T00:00:12Z,load,0.2\n",
+    "2026-03-01T00:00:20Z,,\n",
+]
 STATE = "s"
 
 
 @dataclasses.dataclass(frozen=True)
 class Case:
-    """Options, and how many lines an earlier call took, whose state is there."""
+    """Options, how many lines an earlier call took, whose state is there, and the lines of the feed."""
 
     options: list[str]
     before: int | None = None
+    lines: Sequence[str] = tuple(LINES)
 
 
 CASES = [
@@ -69,6 +83,8 @@ CASES = [
     Case(["--lateness", "3", "--idle", "30"]),
     Case(["--lateness", "3", "--save", STATE]),
     Case(["--begun", "--resume", STATE, "--save", STATE], 5),
+    Case(READINGS, lines=LINES_OF_READINGS),
+    Case([*READINGS, "--ties", "last", "--begun"], lines=LINES_OF_READINGS),
 ]
 ERRORS = ["EIO", "ENOSPC", "EINTR", "EMFILE"]
 
@@ -184,8 +200,8 @@ def own_calls(numbered: Numbered) -> Iterator[Call]:
 def clean_of(program: str, case: Case, tally: Tally) -> Clean | None:
     words = [program, "q", *case.options]
     before = case.before or 0
-    old = None if case.before is None else run([program, "q", "--save", STATE], LINES[:before], []).saved
-    lines = LINES[before:]
+    old = None if case.before is None else run([program, "q", "--save", STATE], case.lines[:before], []).saved
+    lines = [*case.lines[before:]]
     ends = [run(words, lines[:count], [], old) for count in range(len(lines) + 1)]
     wrong = [end for end in ends if end.status != 0 or end.beside or (end.saved is None) != ("--save" not in words)]
     tally.expect(not wrong, f"{words} without a fault: {[dataclasses.replace(end, trace='') for end in wrong[:1]]}")

@@ -2,7 +2,7 @@
 those of pages.
 
 - Of a manual page each paragraph is looked at. What is in bold or italics is a name, and counts as a word of its sentence. What is between
-  `.nf` and `.fi` is no text.
+  `.nf` and `.fi` is no text, and neither is the synopsis.
 - Of a module of python/tilt_data each text of four words or more is looked at, except docstrings. What is put into a text counts as a word.
   Where a line ends with a full stop, a sentence ends."""
 from __future__ import annotations
@@ -22,6 +22,7 @@ LEAST_WORDS = 4
 # Lines that end a paragraph, and lines whose arguments are all names.
 BREAKS = (".SH", ".TP", ".PP", ".br", ".RS", ".RE", ".nf", ".fi", ".TH")
 NAMES = (".B", ".I")
+SYNOPSIS = ".SH SYNOPSIS"
 # Fonts take turns among the arguments of these, and the one that is roman is text.
 ROMAN = {".RB": 0, ".RI": 0, ".BR": 1, ".IR": 1}
 ARGUMENT = re.compile(r'"([^"]*)"|(\S+)')
@@ -52,7 +53,7 @@ def pieces_of_manual(text: str) -> Iterator[Piece]:
         if macro in BREAKS or not shown:
             if piece is not None:
                 yield piece
-            piece, shown = None, macro != ".nf" and (shown or macro == ".fi")
+            piece, shown = None, line not in (".nf", SYNOPSIS) and (shown or macro in (".fi", ".SH"))
         elif piece is None:
             piece = Piece(number, text_of(line))
         else:
