@@ -194,6 +194,23 @@ def test_the_completion_has_the_options_of_tilt_live(root):
         "--every",
         "--from",
         "--position",
+        "--time",
+        "--name",
+        "--value",
+        "--tick",
+        "--origin",
+        "--unit",
+        "--scale",
+        "--event",
+        "--max-age",
+        "--closed",
+        "--ties",
+        "--null",
+        "--skip-empty",
+        "--delimiter",
+        "--decimal",
+        "--times",
+        "--decimals",
     ]
     assert offered(root, "tilt-live", "query.tilt", "--", by="_tilt_live") == options
 
