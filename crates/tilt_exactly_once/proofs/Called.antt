@@ -30,7 +30,7 @@ module _ {F M Of : Type 0} (seen : F → Kept) (may_leave : F → Kept → Type 
       → (read : List ℕ) × (behind : List ℕ) × (rest ≡ read ++ behind) × HoldsFront (commits of) bytes read c
   is-run end (unstarted same passing leaves) = ([], rest, refl, front-none (commits of) bytes c (leaves.each c left))
   is-run end (unreached because leaves) = ([], rest, refl, front-none (commits of) bytes c (leaves.each c left))
-  is-run end (served between reached over was) =
+  is-run end (served between reached over halts was) =
       let passed = (over told).passed in
       let all : old.read ++ gives.read ≡ old.read ++ (passed ++ was.read) =
       sym gives.is_read ∙ was.from_port told ∙ ap (λ (l : List ℕ). l ++ was.read) (over told).read ∙ append_assoc old.read passed was.read in

@@ -44,7 +44,7 @@ module _ {F M Of : Type 0} (seen : F → Kept) (may_leave : F → Kept → Type 
       → HasServedFeed seen may_leave is output of commits stops fits moment left_since port_tells from bytes first old folder new (failing end)
   fed-from (Err why) opened (unpassed same because) =
       unreached because (subst (λ (f : F). LeavesOnly moment left_since first f (Holds (commits of) bytes)) (sym same) opened)
-  fed-from end opened (passed between reached over was) = served between reached over (served-since between end opened was)
+  fed-from end opened (passed between reached over halts was) = served between reached over halts (served-since between end opened was)
 
 -- a fault after others
 rose-since : (before mid after : ℕ) → before ≤ mid → Rose mid after → Rose before after

@@ -1,6 +1,9 @@
 mod Called
 mod Fed
+mod Frames
+mod Lasts
 mod Moments
+mod Noticed
 mod Opening
 mod Passed
 mod Recently

@@ -1,9 +1,9 @@
 -- What serving a feed into a folder leaves, from opening the folder on (our own rule).
-use Rattle.std.specs.Prelude.{◌≡◌, ⊤, ℕ, List, Result, Ok, Err}
+use Rattle.std.specs.Prelude.{◌≡◌, ⊤, ℕ, List, Result, Ok, Err, IfErr}
 use Rattle.tilt_exactly_once.specs.Committed.{Holds}
 use Rattle.tilt_exactly_once.specs.Opening.{IsCause, IsFault, IsPassing}
-use Rattle.tilt_exactly_once.specs.Passing.{HasPassed, IsReached, IsUnpassed, count_passed}
-use Rattle.tilt_exactly_once.specs.Serving.{HasServed}
+use Rattle.tilt_exactly_once.specs.Passing.{HasPassedOver, IsReached, IsUnpassed}
+use Rattle.tilt_exactly_once.specs.Serving.{HasServed, IsServingHalt}
 use Rattle.tilt_exactly_once.specs.declared.failure.Failure.{Failure}
 use Rattle.tilt_exactly_once.specs.declared.failure.Failure.TheVariants.{Halted, Unstarted}
 use Rattle.tilt_exactly_once.specs.declared.halt.Halt.{Halt}
@@ -38,7 +38,8 @@ module _ {F M Of : Type 0} (seen : F → Kept) (may_leave : F → Kept → Type 
   -- they couldn't be, and the folder has what it had
   pub data HasServedFrom : Result (Unit {0}) Halt → Type 0 where
     unpassed : {why : Halt} → folder ≡ first → IsUnpassed port_tells from bytes old new why → HasServedFrom (Err why)
-    passed : {end : Result (Unit {0}) Halt} (between : Transcript) → IsReached from bytes → (port_tells → HasPassed (count_passed from bytes) old between)
+    passed : {end : Result (Unit {0}) Halt} (between : Transcript) → IsReached from bytes → (port_tells → HasPassedOver from bytes old between)
+        → IfErr end IsServingHalt
         → HasServed seen may_leave is output of commits stops fits moment left_since port_tells first bytes between folder new end → HasServedFrom end
 
   -- The same from opening the folder on. If it can't be opened, nothing is read. Or what isn't committed of the feed isn't reached
@@ -47,6 +48,7 @@ module _ {F M Of : Type 0} (seen : F → Kept) (may_leave : F → Kept → Type 
         → HasServedFeed (Err (Unstarted error))
     unreached : {why : Halt} → IsUnpassed port_tells from bytes old new why → LeavesOnly moment left_since first folder (Holds (commits of) bytes)
         → HasServedFeed (Err (Halted why))
-    served : {end : Result (Unit {0}) Halt} (between : Transcript) → IsReached from bytes → (port_tells → HasPassed (count_passed from bytes) old between)
+    served : {end : Result (Unit {0}) Halt} (between : Transcript) → IsReached from bytes → (port_tells → HasPassedOver from bytes old between)
+        → IfErr end IsServingHalt
         → HasServed seen may_leave is output of commits stops fits moment left_since port_tells first bytes between folder new end
         → HasServedFeed (failing end)

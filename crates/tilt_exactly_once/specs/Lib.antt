@@ -1,6 +1,9 @@
 pub mod Committed
 pub mod Feeding
+pub mod Framed
+pub mod FramedLaws
 pub mod Halts
+pub mod Last
 pub mod Opening
 pub mod Passing
 pub mod Recent

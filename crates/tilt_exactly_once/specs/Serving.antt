@@ -1,5 +1,5 @@
 -- What serving a feed into a folder leaves of it.
-use Rattle.std.specs.Prelude.{◌≡◌, ℕ, true, List, ◌++◌, length, Result, Ok, Err, OnOk, IfErr}
+use Rattle.std.specs.Prelude.{◌≡◌, ⊤, ℕ, true, List, ◌++◌, length, Result, Ok, Err, OnOk, IfErr}
 use Rattle.tilt_exactly_once.specs.Committed.{Holds, HoldsFront}
 use Rattle.tilt_exactly_once.specs.Recent.{HoldsBut}
 use Rattle.tilt_exactly_once.specs.declared.halt.Halt.{Halt}
@@ -12,6 +12,17 @@ use Rattle.tilt_store.specs.Commit.{Commit}
 use Rattle.tilt_store.specs.Crash.{LeavesOnly}
 use Rattle.tilt_store.specs.Kept.{Kept}
 use Rattle.tilt_store.specs.Open.{IsOpen, IsSettled}
+
+-- what can halt this
+abbrev pub IsServingHalt : Halt → Type 0
+IsServingHalt halt.BadLine = ⊤
+IsServingHalt halt.TooLong = ⊤
+IsServingHalt halt.OutOfMemory = ⊤
+IsServingHalt halt.ReadFault = ⊤
+IsServingHalt halt.Failed = ⊤
+IsServingHalt halt.Gap = ⊥
+IsServingHalt halt.Short = ⊥
+IsServingHalt halt.Changed = ⊥
 
 -- The meanings of a folder and of a machine, and what the machine is of.
 module _ {F M Of : Type 0} (seen : F → Kept) (may_leave : F → Kept → Type 0) (is : M → Of → List ℕ → Type 0) (output : Of → List ℕ → List ℕ) (of : Of) where

@@ -2,6 +2,7 @@
 ghost use Rattle.std.specs.Prelude.{◌≡◌, ℕ, List, [], length, IfErr, IfOk, IsErrOf};
 ghost use Rattle.tilt_exactly_once.specs.Committed.{Holds};
 ghost use Rattle.tilt_exactly_once.specs.Feeding.{HasServedFeed, IsFailureCause, IsFailureFault, failing};
+ghost use Rattle.tilt_exactly_once.specs.Framed.{IsFramed, KeepsLast, frames, rejects_framed};
 ghost use Rattle.tilt_exactly_once.specs.Opening.{IsCause, IsFault, IsPassing};
 ghost use Rattle.tilt_outside.specs.Counts.{added_count};
 ghost use Rattle.tilt_outside.specs.Faults.{Rose};
@@ -9,10 +10,12 @@ ghost use Rattle.tilt_store.specs.Crash.{LeavesOnly, Only};
 ghost use Rattle.tilt_store.specs.Open.{OpensSame};
 
 use crate::failure::Failure;
+use crate::framed_machine::FramedMachine;
 use crate::halt::Halt;
 use crate::machine::Machine;
 use crate::plan::Plan;
 use crate::refusal::StartError;
+use crate::resuming::serve_from;
 use crate::start::open;
 use std::alloc::Global;
 use tilt_outside::Sink;
@@ -40,12 +43,12 @@ pub fn serve_feed<F: Folder, M: Machine + Drop, P: Port, E: Sink>(
     requires lines { (n : ℕ) → E.takes err.old n }
 
     // Of a folder with the commit of bytes of the feed: what was read, and what each crash at any moment leaves.
-    ensures served { F.tells → (bytes : List ℕ) → Holds (M.commits (M.of recipe)) bytes (F.seen folder)
-        → HasServedFeed F.seen F.may_leave M.is M.output (M.of recipe) M.commits M.stops M.fits F.moment F.left_since P.tells
-        plan.from bytes folder (P.transcript port.old) result.folder (P.transcript port.new) result.end }
+    ensures served { F.tells → (bytes : List ℕ) → Holds (IsFramed (M.commits (M.of recipe))) bytes (F.seen folder)
+        → HasServedFeed F.seen F.may_leave (KeepsLast M.is) M.output (M.of recipe) (frames M.commits) M.stops M.fits F.moment
+        F.left_since P.tells plan.from bytes folder (P.transcript port.old) result.folder (P.transcript port.new) result.end }
 
     // Of any folder: why nothing was read, and that then each crash leaves what it held.
-    ensures cause { F.tells → IfErr result.end (IsFailureCause (M.rejects recipe) (F.seen folder)) }
+    ensures cause { F.tells → IfErr result.end (IsFailureCause (rejects_framed (M.rejects recipe)) (F.seen folder)) }
     ensures kept { F.tells → IfErr result.end (λ failure. (error : StartError) → failure ≡ Failure.Unstarted error
         → LeavesOnly F.moment F.left_since folder result.folder (OpensSame [] (F.seen folder))) }
     ensures unread { IfErr result.end (λ failure. (error : StartError) → failure ≡ Failure.Unstarted error
@@ -55,9 +58,9 @@ pub fn serve_feed<F: Folder, M: Machine + Drop, P: Port, E: Sink>(
         → Rose (P.transcript port.old).read_faults (P.transcript port.new).read_faults }
     ensures takes { (n : ℕ) → E.takes err.new n }
 {
-    match open::<F, M>(alloc, folder, recipe) {
+    match open::<F, FramedMachine<M>>(alloc, folder, recipe) {
         Ok(mut keeper) => {
-            let end = keeper.serve_from(alloc, plan, port, err);
+            let end = serve_from(alloc, &mut keeper, plan, port, err);
             Served {
                 folder: keeper.ledger.folder,
                 end: failing(end),
@@ -87,17 +90,17 @@ pub fn count_committed<F: Folder, M: Machine + Drop>(
     recipe: M::Recipe,
 ) -> Result<(u64, F), (StartError, F)>
     requires only { F.tells → Only (F.seen folder) (F.may_leave folder) }
-    ensures count { F.tells → (bytes : List ℕ) → Holds (M.commits (M.of recipe)) bytes (F.seen folder)
+    ensures count { F.tells → (bytes : List ℕ) → Holds (IsFramed (M.commits (M.of recipe))) bytes (F.seen folder)
         → IfOk result (λ found. found.0 ≡ added_count 0 (length bytes)) }
-    ensures any_moment { F.tells → (bytes : List ℕ) → Holds (M.commits (M.of recipe)) bytes (F.seen folder)
-        → IfOk result (λ found. LeavesOnly F.moment F.left_since folder found.1 (Holds (M.commits (M.of recipe)) bytes)) }
+    ensures any_moment { F.tells → (bytes : List ℕ) → Holds (IsFramed (M.commits (M.of recipe))) bytes (F.seen folder)
+        → IfOk result (λ found. LeavesOnly F.moment F.left_since folder found.1 (Holds (IsFramed (M.commits (M.of recipe))) bytes)) }
     ensures kept { F.tells → IfErr result (λ e. LeavesOnly F.moment F.left_since folder e.1 (OpensSame [] (F.seen folder))) }
-    ensures taken { F.tells → (bytes : List ℕ) → Holds (M.commits (M.of recipe)) bytes (F.seen folder)
+    ensures taken { F.tells → (bytes : List ℕ) → Holds (IsFramed (M.commits (M.of recipe))) bytes (F.seen folder)
         → IfErr result (λ e. IsPassing e.0) }
-    ensures cause { F.tells → IfErr result (λ e. IsCause (M.rejects recipe) (F.seen folder) e.0) }
+    ensures cause { F.tells → IfErr result (λ e. IsCause (rejects_framed (M.rejects recipe)) (F.seen folder) e.0) }
     ensures failed { IfErr result (λ e. IsFault e.0 → Rose (F.faults folder) (F.faults e.1)) }
 {
-    match open::<F, M>(alloc, folder, recipe) {
+    match open::<F, FramedMachine<M>>(alloc, folder, recipe) {
         Ok(keeper) => Ok((keeper.machine.taken(), keeper.ledger.folder)),
         Err(failure) => Err(failure),
     }

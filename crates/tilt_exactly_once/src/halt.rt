@@ -43,6 +43,9 @@ pub enum Halt {
     /// The feed ended before those that are committed, so it isn't the same feed.
     #[error("the feed ends before what is committed")]
     Short,
+    /// The last bytes that are committed aren't those of the feed, so it isn't the same feed, or it has changed.
+    #[error("the feed has changed before what is committed")]
+    Changed,
 }
 
 impl From<AllocError> for Halt {

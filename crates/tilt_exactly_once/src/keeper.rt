@@ -1,10 +1,8 @@
 // A feed that is served into a folder.
 ghost use Rattle.std.specs.Prelude.{◌≡◌, ◌<◌, ◌≤◌, ◌⊎◌, ◌++◌, ℕ, List, length, IfErr, IfOk, IsErrOf, OnOk};
 ghost use Rattle.tilt_exactly_once.specs.Committed.{Holds};
-ghost use Rattle.tilt_exactly_once.specs.Feeding.{HasServedFrom};
-ghost use Rattle.tilt_exactly_once.specs.Passing.{HasPassed, IsReached, IsUnpassed, count_passed};
 ghost use Rattle.tilt_exactly_once.specs.Recent.{HoldsBut, lines_in};
-ghost use Rattle.tilt_exactly_once.specs.Serving.{GoesOn, HasServed, HasStepped, IsUnderway};
+ghost use Rattle.tilt_exactly_once.specs.Serving.{GoesOn, HasServed, HasStepped, IsServingHalt, IsUnderway};
 ghost use Rattle.tilt_outside.specs.Counts.{added_count};
 ghost use Rattle.tilt_outside.specs.Faults.{Rose};
 ghost use Rattle.tilt_port.specs.Transcript.{Transcript};
@@ -13,15 +11,13 @@ ghost use Rattle.tilt_store.specs.Open.{IsOpen, IsSettled, SameCommit};
 
 use crate::halt::Halt;
 use crate::machine::Machine;
-use crate::passing::pass_over;
-use crate::plan::Plan;
 use std::alloc::{AllocError as OutOfMemory, Global};
 use tilt_outside::Sink;
 use tilt_port::Port;
 use tilt_store::{Folder, Ledger};
 
 // How many bytes one read asks for at most.
-const PIECE: usize = 65536;
+pub(crate) const PIECE: usize = 65536;
 
 /// Whether there may be more of the feed.
 #[derive(Clone, Copy, Debug, PartialEq, Eq)]
@@ -57,49 +53,6 @@ impl<F: Folder, M: Machine> Keeper<F, M> {
         }
     }
 
-    /// Serves a feed that is read from the byte that the plan says. What is committed of it is passed over, and what is left is served.
-    pub fn serve_from<P: Port, E: Sink>(
-        &mut self,
-        alloc: Global,
-        plan: Plan,
-        port: &mut P,
-        err: &mut E,
-    ) -> Result<(), Halt>
-        requires sound { M.sound self.old.machine }
-        requires is_open { F.tells → IsOpen (F.seen self.old.ledger.folder) (F.may_leave self.old.ledger.folder) }
-        requires lines { (n : ℕ) → E.takes err.old n }
-        ensures served { F.tells → (of : M.Of) (bytes : List ℕ)
-            → IsUnderway F.seen F.may_leave M.is M.output of self.old.ledger.folder self.old.machine self.old.written bytes
-            → Holds (M.commits of) bytes (F.seen self.old.ledger.folder)
-            → HasServedFrom F.seen F.may_leave M.is M.output of M.commits M.stops M.fits F.moment F.left_since P.tells plan.from bytes
-            self.old.ledger.folder (P.transcript port.old) self.new.ledger.folder (P.transcript port.new) result }
-        ensures read_fault { IsErrOf result Halt.ReadFault → Rose (P.transcript port.old).read_faults (P.transcript port.new).read_faults }
-        ensures failed { IsErrOf result Halt.Failed → Rose (F.faults self.old.ledger.folder) (F.faults self.new.ledger.folder) }
-        ensures faults { F.faults self.old.ledger.folder ≤ F.faults self.new.ledger.folder }
-        ensures takes { (n : ℕ) → E.takes err.new n }
-    {
-        self.pass(alloc, plan.from, port)?;
-        self.serve(alloc, plan.every, port, err)
-    }
-
-    // Passes over what is committed of a feed that is read from a byte on.
-    fn pass<P: Port>(&self, alloc: Global, from: u64, port: &mut P) -> Result<(), Halt>
-        ensures passed { P.tells → (of : M.Of) (bytes : List ℕ) → M.is self.now.machine of bytes
-            → OnOk result (HasPassed (count_passed from bytes) (P.transcript port.old) (P.transcript port.new)) }
-        ensures reached { (of : M.Of) (bytes : List ℕ) → M.is self.now.machine of bytes → OnOk result (IsReached from bytes) }
-        ensures unpassed { (of : M.Of) (bytes : List ℕ) → M.is self.now.machine of bytes
-            → IfErr result (IsUnpassed P.tells from bytes (P.transcript port.old) (P.transcript port.new)) }
-        ensures read_fault { IsErrOf result Halt.ReadFault → Rose (P.transcript port.old).read_faults (P.transcript port.new).read_faults }
-        ensures unfailed { IsErrOf result Halt.Failed → ⊥ }
-        ensures reads { (P.transcript port.old).read_faults ≤ (P.transcript port.new).read_faults }
-    {
-        let Some(count) = self.machine.taken().checked_sub(from) else {
-            return Err(Halt::Gap);
-        };
-        let mut room = make_room(alloc, PIECE)?;
-        pass_over(&mut room, count, port)
-    }
-
     /// Serves what is left of a feed. Its output goes into the folder. After at least so many lines, and at the end of the feed, all of it
     /// is committed with the state of the machine.
     pub fn serve<P: Port, E: Sink>(
@@ -118,6 +71,7 @@ impl<F: Folder, M: Machine> Keeper<F, M> {
             → HasServed F.seen F.may_leave M.is M.output of M.commits M.stops M.fits F.moment F.left_since P.tells
             self.old.ledger.folder bytes (P.transcript port.old) self.new.ledger.folder (P.transcript port.new) result }
         ensures read_fault { IsErrOf result Halt.ReadFault → Rose (P.transcript port.old).read_faults (P.transcript port.new).read_faults }
+        ensures halt { IfErr result IsServingHalt }
         ensures failed { IsErrOf result Halt.Failed → Rose (F.faults self.old.ledger.folder) (F.faults self.new.ledger.folder) }
         ensures faults { F.faults self.old.ledger.folder ≤ F.faults self.new.ledger.folder }
         ensures takes { (n : ℕ) → E.takes err.new n }
@@ -145,6 +99,7 @@ impl<F: Folder, M: Machine> Keeper<F, M> {
             → HasServed F.seen F.may_leave M.is M.output of M.commits M.stops M.fits F.moment F.left_since P.tells
             first bytes old self.new.ledger.folder (P.transcript port.new) result }
         ensures read_fault { IsErrOf result Halt.ReadFault → Rose (P.transcript port.old).read_faults (P.transcript port.new).read_faults }
+        ensures halt { IfErr result IsServingHalt }
         ensures failed { IsErrOf result Halt.Failed → Rose (F.faults self.old.ledger.folder) (F.faults self.new.ledger.folder) }
         ensures faults { F.faults self.old.ledger.folder ≤ F.faults self.new.ledger.folder }
         ensures takes { (n : ℕ) → E.takes err.new n }
@@ -183,6 +138,7 @@ impl<F: Folder, M: Machine> Keeper<F, M> {
         ensures sound { M.sound self.new.machine }
         ensures is_open { F.tells → OnOk result (IsOpen (F.seen self.new.ledger.folder) (F.may_leave self.new.ledger.folder)) }
         ensures read_fault { IsErrOf result Halt.ReadFault → Rose (P.transcript port.old).read_faults (P.transcript port.new).read_faults }
+        ensures halt { IfErr result IsServingHalt }
         ensures failed { IsErrOf result Halt.Failed → Rose (F.faults self.old.ledger.folder) (F.faults self.new.ledger.folder) }
         ensures reads { (P.transcript port.old).read_faults ≤ (P.transcript port.new).read_faults }
         ensures faults { F.faults self.old.ledger.folder ≤ F.faults self.new.ledger.folder }
@@ -220,6 +176,7 @@ impl<F: Folder, M: Machine> Keeper<F, M> {
             → IfErr result (λ why. why ≡ Halt.BadLine → M.stops of (bytes ++ piece.now)) }
         ensures short { IfErr result (λ why. why ≡ Halt.TooLong → ⊥) }
         ensures no_read { IfErr result (λ why. why ≡ Halt.ReadFault → ⊥) }
+        ensures halt { IfErr result IsServingHalt }
         ensures failed { IsErrOf result Halt.Failed → Rose (F.faults self.old.ledger.folder) (F.faults self.new.ledger.folder) }
         ensures faults { F.faults self.old.ledger.folder ≤ F.faults self.new.ledger.folder }
         ensures sound { M.sound self.new.machine }
@@ -259,6 +216,7 @@ impl<F: Folder, M: Machine> Keeper<F, M> {
             → IfErr result (λ why. why ≡ Halt.TooLong → M.fits of bytes → ⊥) }
         ensures good { IfErr result (λ why. why ≡ Halt.BadLine → ⊥) }
         ensures no_read { IfErr result (λ why. why ≡ Halt.ReadFault → ⊥) }
+        ensures halt { IfErr result IsServingHalt }
         ensures failed { IsErrOf result Halt.Failed → Rose (F.faults self.old.ledger.folder) (F.faults self.new.ledger.folder) }
         ensures faults { F.faults self.old.ledger.folder ≤ F.faults self.new.ledger.folder }
         ensures sound { M.sound self.new.machine }
@@ -292,6 +250,7 @@ impl<F: Folder, M: Machine> Keeper<F, M> {
             → IfErr result (λ why. why ≡ Halt.TooLong → M.fits of bytes → ⊥) }
         ensures good { IfErr result (λ why. why ≡ Halt.BadLine → ⊥) }
         ensures no_read { IfErr result (λ why. why ≡ Halt.ReadFault → ⊥) }
+        ensures halt { IfErr result IsServingHalt }
         ensures failed { IsErrOf result Halt.Failed → Rose (F.faults self.old.ledger.folder) (F.faults self.new.ledger.folder) }
         ensures faults { F.faults self.old.ledger.folder ≤ F.faults self.new.ledger.folder }
         ensures sound { M.sound self.new.machine }
@@ -304,7 +263,7 @@ impl<F: Folder, M: Machine> Keeper<F, M> {
 }
 
 // Memory that reads can fill.
-fn make_room(alloc: Global, size: usize) -> Result<Vec<u8>, OutOfMemory>
+pub(crate) fn make_room(alloc: Global, size: usize) -> Result<Vec<u8>, OutOfMemory>
     ensures { IfOk result (λ room. length room.items ≡ size) }
 {
     vec![in alloc; 0u8; size]

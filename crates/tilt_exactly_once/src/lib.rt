@@ -8,20 +8,24 @@
 
 mod failure;
 mod feed;
+mod framed_machine;
 mod halt;
 mod keeper;
+mod last;
 mod law;
 mod machine;
 mod passing;
 mod plan;
 mod refusal;
+mod resuming;
 mod start;
 
 pub use failure::Failure;
 pub use feed::{Served, count_committed, serve_feed};
+pub use framed_machine::FramedMachine;
 pub use halt::{Halt, Stop};
 pub use keeper::{Keeper, Progress};
-pub use law::{passing_leaves_the_rest, programs_are_runs, runs_hold_a_front};
+pub use law::{changes_are_noticed, passing_leaves_the_rest, programs_are_runs, runs_hold_a_front};
 pub use machine::{Machine, Resumed, Started};
 pub use plan::Plan;
 pub use refusal::{Refusal, StartError};

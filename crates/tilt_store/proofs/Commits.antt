@@ -1,22 +1,22 @@
 -- What folders hold as committed.
-use Rattle.std.proofs.Common.{◌≡◌, ℕ, pos, ◌<◌, ◌≤◌, ◌^◌, nat_le, Bool, true, false, if◌then◌else◌, List, [], ◌∷◌, length, take, length-append}
+use Rattle.std.proofs.Common.{◌≡◌, ◌≢◌, ℕ, ◌<◌, ◌≤◌, ◌^◌, nat_le, Bool, true, false, if◌then◌else◌, List, [], ◌∷◌, ◌++◌, length, take, length-append}
 use Rattle.std.proofs.Common.{Option, Some, None, Result, Ok, Err, refl, sym, ◌∙◌, ap, arith}
 use Rattle.std.proofs.lemmas.Bool.Decides.{nat_tests}
 use Rattle.std.proofs.Math.Seq.{take-length}
 use Rattle.std.proofs.lemmas.List.{length-take-le}
-use Rattle.std.specs.Fmt.{decimal}
-use Rattle.tilt_text.proofs.Lacks.{decimal_lacks}
-use Rattle.tilt_text.proofs.Numbers.{shortest-signed}
-use Rattle.tilt_text.proofs.Words.{until-front}
-use Rattle.tilt_store.specs.Commit.{Commit, commit_in, commit_of, committed, spelled, unspelled}
+use Rattle.tilt_text.proofs.Step.{bind_some}
+use Rattle.tilt_text.specs.Step.{◌>>=◌}
+use Rattle.tilt_store.proofs.Counted.{uncounted-counted}
+use Rattle.tilt_store.proofs.Seals.{sealed-unsealed, unsealed-sealed, unsealed-spoiled}
+use Rattle.tilt_store.specs.Commit.{Commit, commit_in, commit_of, committed, counted, spelled, uncounted, unspelled}
 use Rattle.tilt_store.specs.Kept.{Kept}
+use Rattle.tilt_store.specs.Seal.{seal_of, sealed, unsealed}
 use Rattle.tilt_store.specs.declared.open_error.OpenError.{OpenError}
-use Rattle.tilt_store.specs.declared.open_error.OpenError.TheVariants.{OutputTooShort}
+use Rattle.tilt_store.specs.declared.open_error.OpenError.TheVariants.{BrokenState, OutputTooShort}
 
 -- what is spelled is read
 pub unspelled-spelled : (n : ℕ) (state : List ℕ) → n < 2 ^ 63 → unspelled (spelled n state) ≡ Some (n, state)
-unspelled-spelled n state small =
-    rw (until-front 10 (decimal n) state (decimal_lacks 10 (omega arith) n (omega arith)), shortest-signed (pos n) (search arith)) refl
+unspelled-spelled n state small = rw (unsealed-sealed (counted n state)) (uncounted-counted n state small)
 
 -- a folder holds a commit: its state file spells the commit's length and state, and the output starts with the commit's
 pub record Holds (commit : Commit) (state output : List ℕ) : Type 0 where
@@ -85,8 +85,19 @@ same_front commit old new is state long front =
 pub spelled_for_all : (output state : List ℕ) → length output < 2 ^ 63 → commit_in (spelled (length output) state) output ≡ Ok (Some (record { output = output; state = state }))
 spelled_for_all output state short =
     is_held (record { output = output; state = state }) (spelled (length output) state) output (record {
-      some = omega (arith, length-append (decimal (length output)) (10 ∷ state));
+      some = omega (arith, length-append (seal_of (counted (length output) state)) (10 ∷ counted (length output) state));
       mark = unspelled-spelled (length output) state short;
       within = omega arith;
       front = take-length output;
     })
+
+-- a state that is taken was sealed
+pub is-sealed : (kept : Kept) (commit : Commit) → committed kept ≡ Ok (Some commit) → (text : List ℕ) × (kept.state ≡ sealed text)
+is-sealed kept commit is =
+    let step = bind_some (unsealed kept.state) uncounted (length commit.output, commit.state) (holds commit kept.state kept.output is).mark in
+    (step.0, sealed-unsealed kept.state step.0 step.1)
+
+-- and one whose text is another one isn't taken
+pub spoiled-broken : (output text spoiled : List ℕ) → seal_of spoiled ≢ seal_of text
+    → committed (record { output = output; state = seal_of text ++ 10 ∷ spoiled }) ≡ Err BrokenState
+spoiled-broken output text spoiled other = ap (λ (t : Option (List ℕ)). commit_of output (t >>= uncounted)) (unsealed-spoiled text spoiled other)

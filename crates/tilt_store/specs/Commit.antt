@@ -6,6 +6,7 @@ use Rattle.tilt_text.specs.Cut.{until_at}
 use Rattle.tilt_text.specs.Spelled.{shortest}
 use Rattle.tilt_text.specs.Step.{◌>>=◌}
 use Rattle.tilt_store.specs.Kept.{Kept}
+use Rattle.tilt_store.specs.Seal.{sealed, unsealed}
 use Rattle.tilt_store.specs.declared.open_error.OpenError.{OpenError}
 use Rattle.tilt_store.specs.declared.open_error.OpenError.TheVariants.{OutputWithoutState, BrokenState, OutputTooShort}
 
@@ -14,30 +15,38 @@ pub record Commit : Type 0 where
   pub output : List ℕ
   pub state : List ℕ
 
--- the bytes of a state file: how many bytes of the output are committed, in decimal, LF, and the caller's state
+-- a number in decimal, LF, and a text
+abbrev pub counted : ℕ → List ℕ → List ℕ
+counted n text = decimal n ++ 10 ∷ text
+
+-- the bytes of a state file: how many bytes of the output are committed, and the caller's state, behind the seal of both
 abbrev pub spelled : ℕ → List ℕ → List ℕ
-spelled n state = decimal n ++ 10 ∷ state
+spelled n state = sealed (counted n state)
 
 -- the number if it isn't negative
 abbrev pub natural : ℤ → Option ℕ
 natural (pos n) = Some n
 natural (negsuc n) = None
 
--- the length that a line spells in shortest decimal
+-- the number that a line spells in shortest decimal
 abbrev pub length_spelled : List ℕ → Option ℕ
 length_spelled line = shortest line >>= natural
 
--- a length, and the bytes after its line
+-- a number, and the text behind its line
 abbrev pub before : List ℕ → ℕ → Option (ℕ × List ℕ)
-before state n = Some (n, state)
+before text n = Some (n, text)
 
--- the length in the first line and the caller's state after it
+-- the number that a line spells, and the text behind it
 abbrev pub with_length : List ℕ × List ℕ → Option (ℕ × List ℕ)
 with_length parts = length_spelled parts.0 >>= before parts.1
 
+-- the number in the first line of bytes, and the text behind that line
+abbrev pub uncounted : List ℕ → Option (ℕ × List ℕ)
+uncounted bytes = until_at 10 bytes >>= with_length
+
 -- the length and the caller's state that a state file spells
 abbrev pub unspelled : List ℕ → Option (ℕ × List ℕ)
-unspelled bytes = until_at 10 bytes >>= with_length
+unspelled bytes = unsealed bytes >>= uncounted
 
 -- the commit of an output and what the state file spells
 abbrev pub commit_of : List ℕ → Option (ℕ × List ℕ) → Result (Option Commit) OpenError

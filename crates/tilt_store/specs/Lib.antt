@@ -9,3 +9,4 @@ pub mod MemFolders
 pub mod MemLaws
 pub mod Open
 pub mod Runs
+pub mod Seal

@@ -23,6 +23,7 @@ mod mem_folder;
 mod mem_folders;
 mod open_error;
 mod opening;
+mod seal;
 mod tear;
 
 pub use disk_folder::DiskFolder;
@@ -31,8 +32,9 @@ pub use enter_error::EnterError;
 pub use folder::Folder;
 pub use folder_error::FolderError;
 pub use folders::Folders;
-pub use law::exactly_once;
+pub use law::{exactly_once, spoiled_states_are_rejected};
 pub use ledger::{Ledger, Opened};
+pub use mark::{read_counted, spell_counted};
 pub use mem_folder::MemFolder;
 pub use mem_folders::MemFolders;
 pub use open_error::OpenError;

@@ -19,8 +19,9 @@ pub enum OpenError {
     /// There is an output but no state, so nobody knows how much of the output counts.
     #[error("there is an output but no state")]
     OutputWithoutState,
-    /// The state doesn't start with a length in shortest decimal and LF.
-    #[error("the state doesn't start with the output's length")]
+    /// The state doesn't start with its seal, or no length in shortest decimal and LF comes behind that: it is none of ours, or some of its
+    /// bytes were spoiled.
+    #[error("the state is none, or was spoiled")]
     BrokenState,
     /// The output is shorter than the length in the state.
     #[error("the output is shorter than the state says")]

@@ -24,6 +24,10 @@ const FIRST: [&[u8]; 6] = [
     ALL,
 ];
 
+// The state of the last commit. The digest is from another program.
+const LAST_STATE: &[u8] =
+    b"tilt store 1 5c57d7235311d2abc16d1adf9807c4fe4fdbc37af525b2b9cba93f67370faea4\n20\n\x05";
+
 // A run that isn't killed makes 4 calls to open, 5 to append and 12 to commit.
 const CALLS: u64 = 21;
 
@@ -130,7 +134,7 @@ fn crash_twice<R: Abort>(
     assert!(rt; last.is_done);
     let left = last.folder.crash(alloc, Tear::Nothing, false, 0)?;
     assert_eq!(rt; left.output(), ALL);
-    assert_eq!(rt; left.state(), b"20\n\x05".as_slice());
+    assert_eq!(rt; left.state(), LAST_STATE);
     Ok(())
 }
 

@@ -38,11 +38,41 @@ fn go_on<R: Abort>(
 
 // Bytes to append, the state to commit with them, if one is, the state that is found before, and the files after.
 const STEPS: &[(&[u8], Option<&[u8]>, &[u8], &[u8], &[u8])] = &[
-    (b"a\n", Some(b"one"), b"new", b"a\n", b"2\none"),
-    (b"lost", None, b"one", b"a\nlost", b"2\none"),
-    (b"b\n", Some(b"two"), b"one", b"a\nb\n", b"4\ntwo"),
-    (b"", Some(b""), b"two", b"a\nb\n", b"4\n"),
-    (b"c", None, b"", b"a\nb\nc", b"4\n"),
+    (
+        b"a\n",
+        Some(b"one"),
+        b"new",
+        b"a\n",
+        b"tilt store 1 43e10f42988d2d78bf13257ac162d35ee9fffe138d7ca24e46ef8ae9b4467c3e\n2\none",
+    ),
+    (
+        b"lost",
+        None,
+        b"one",
+        b"a\nlost",
+        b"tilt store 1 43e10f42988d2d78bf13257ac162d35ee9fffe138d7ca24e46ef8ae9b4467c3e\n2\none",
+    ),
+    (
+        b"b\n",
+        Some(b"two"),
+        b"one",
+        b"a\nb\n",
+        b"tilt store 1 25250c6569267b3e72160f780be33eb259fe13e0cac5ef68d4939c7effea7fc3\n4\ntwo",
+    ),
+    (
+        b"",
+        Some(b""),
+        b"two",
+        b"a\nb\n",
+        b"tilt store 1 7de1555df0c2700329e815b93b32c571c3ea54dc967b89e81ab73b9972b72d1d\n4\n",
+    ),
+    (
+        b"c",
+        None,
+        b"",
+        b"a\nb\nc",
+        b"tilt store 1 7de1555df0c2700329e815b93b32c571c3ea54dc967b89e81ab73b9972b72d1d\n4\n",
+    ),
 ];
 
 #[test]
