@@ -4,6 +4,7 @@ from __future__ import annotations
 
 import contextlib
 import dataclasses
+import hashlib
 import os
 import select
 import subprocess
@@ -58,7 +59,7 @@ def read_all(file: IO[bytes]) -> bytes:
 @dataclasses.dataclass(frozen=True)
 class Commit:
     """What the state of a folder says: the length of the output, how many bytes and lines of the feed it is of, the bytes of a line that
-    has begun, how much output was written, and whether anything was begun."""
+    has begun, how much output was written, whether anything was begun, and the last bytes of the feed that were taken."""
 
     length: int = 0
     taken: int = 0
@@ -66,6 +67,7 @@ class Commit:
     rest: bytes = b""
     written: int = 0
     begun: bool = False
+    last: bytes = b""
 
     @property
     def position(self) -> int:
@@ -73,12 +75,24 @@ class Commit:
 
 
 def commit_of(state: bytes) -> Commit:
-    first, _, text = state.partition(b"\n")
+    if not state:
+        return Commit()
+    seal, _, text = state.partition(b"\n")
+    if seal != b"tilt store 1 " + hashlib.sha256(text).hexdigest().encode():
+        raise ValueError(f"the state has another digest than {seal!r}")
+    length, _, text = text.partition(b"\n")
     if not text:
-        return Commit(length=int(first or b"0"))
+        return Commit(length=int(length))
+    count, _, text = text.partition(b"\n")
+    last, text = text[: int(count)], text[int(count) :]
     end = text.rfind(b"\n") + 1
     counts = counts_of(text[:end])
-    return Commit(int(first), counts["bytes"], counts["lines"], text[end:], counts["written"], True)
+    return Commit(int(length), counts["bytes"], counts["lines"], text[end:], counts["written"], True, last)
+
+
+def last_of(feed: bytes) -> bytes:
+    """The last bytes of a feed that a state has, and that are compared."""
+    return feed[-4096:]
 
 
 def content(path: str) -> bytes:

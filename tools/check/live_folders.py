@@ -8,8 +8,9 @@ start the folder has a commit of a front of the bytes that were sent, the one be
 lines of this front. While the feed comes, commits come as `--every` says, and a second program is rejected. A kill can leave any bytes
 behind the committed output: the check adds some, and they vanish.
 
-Between the starts the check tries what is rejected: the state of another query or of other options, a state or an output that was cut, an
-output without a state, a feed from too late a byte, and one that ends too early. Each leaves the files as they are.
+Between the starts the check tries what is rejected: the state of another query or of other options, a state of which a byte was changed,
+a state or an output that was cut, an output without a state, a feed from too late a byte, one that ends too early, and one that has changed
+before what is committed. Each leaves the files as they are.
 
 What is expected is worked out from the bytes alone, by tools/check/live.py. Of each feed that differs, the query, the feed and the
 difference are printed, and the check stops after 20 of them. The last line is 'N passed, M failed', and the status is 1 if one failed."""
@@ -30,7 +31,7 @@ sys.path.insert(0, os.path.dirname(os.path.dirname(os.path.realpath(__file__))))
 
 from check.faults.served import memory
 from check.feeds import T, Query, query_of
-from check.folders import Commit, Start, commit_of, content, files_in, put_files
+from check.folders import Commit, Start, commit_of, content, files_in, last_of, put_files
 from check.live import MOST_FAILED, NO_END_OF_LINE, SECONDS, Expected, Options, disordered, expected_of, random_options, random_pieces
 from check.live import random_text, shown
 from check.live_sessions import Came, run
@@ -55,6 +56,7 @@ NO_STATE = f"61 output without state: {FOLDER}"
 CUT_OUTPUT = f"62 output too short: {FOLDER}"
 GAP = f"63 feed starts too late: {FOLDER}"
 SHORT_FEED = f"64 feed ends too early: {FOLDER}"
+CHANGED_FEED = f"68 feed has changed: {FOLDER}"
 BAD_STATE = "55 bad state"
 OF_OTHER_QUERY = "58 state of another query"
 OF_OTHER_OPTIONS = "59 state of other options"
@@ -206,6 +208,7 @@ class Served:
         ended = came.status == 0 or came.status == 1 and stopped is None and plan.end >= old.position
         good = fronts and (commit.position == plan.end or not ended)
         good = good and commit.rest == self.feed[commit.taken : commit.position] and commit.lines == self.lines(commit.taken)
+        good = good and (commit.last == last_of(self.feed[: commit.position]) or not commit.begun)
         good = good and (stopped is None or commit.lines < stopped)
         good = good and (ended or not moved or commit.lines - self.lines(old.position) >= plan.every)
         output = self.output_at(plan.options.begun, commit.position) if commit.begun else b""
@@ -245,45 +248,44 @@ class Served:
         wrong = self.wrong_rejection(GAP, "--from", str(far), feed=self.feed)
         if begin < self.commit.position:
             wrong = wrong or self.wrong_rejection(SHORT_FEED, "--from", str(begin), feed=short)
+            wrong = wrong or self.wrong_rejection(CHANGED_FEED, "--from", str(begin), feed=self.changed_feed(draw, begin))
         if self.commit.begun:
             more = draw.choice(WAYS[:2])
             wrong = wrong or self.wrong_rejection(OF_OTHER_QUERY, *more, feed=self.feed, query=OTHER_QUERY)
             other = dataclasses.replace(self.options, watermarking=watermarking)
             wrong = wrong or self.wrong_rejection(OF_OTHER_OPTIONS, *more, feed=self.feed, options=other)
-        return wrong or self.wrong_if_spoiled(draw) or self.wrong_if_shorter(draw)
+        return wrong or self.wrong_if_spoiled(draw)
+
+    def changed_feed(self, draw: random.Random, begin: int) -> bytes:
+        """The feed from a byte on, with another byte among those that are compared."""
+        place = draw.randrange(max(begin, self.commit.position - 4096), self.commit.position)
+        return self.feed[begin:place] + other_byte(draw, self.feed[place]) + self.feed[place + 1 :]
 
     def wrong_if_spoiled(self, draw: random.Random) -> str | None:
         """What is wrong with what is done with files that no crash leaves, or None. The files are restored."""
         files = files_in(self.folder)
         state, output = files["state"], files["output.csv"]
-        count = draw.choice([draw.randrange(len(state)), len(state.split(b"\n")[0]) + draw.choice([0, 1])])
-        cut_state = state[:count]
+        place = draw.randrange(len(state))
+        wrong_states = [state[:place] + other_byte(draw, state[place]) + state[place + 1 :], state + b"\n"]
+        if place > 0:
+            wrong_states.append(state[:place])
         spoiled: list[tuple[str, dict[str, bytes]]] = [(NO_STATE, {"output.csv": output}), (NO_STATE, {"state": b"", "output.csv": output})]
+        spoiled.extend((BAD_STATE, {"state": wrong_state, "output.csv": output}) for wrong_state in wrong_states)
         if self.commit.length:
             spoiled.append((CUT_OUTPUT, {"state": state, "output.csv": output[: draw.randrange(self.commit.length)]}))
-        # Behind this are the bytes of the line that has begun.
-        if 0 < count < len(state) - len(self.commit.rest):
-            spoiled.append((BAD_STATE, {"state": cut_state, "output.csv": output}))
         line, there = draw.choice(spoiled)
         put_files(self.folder, there)
         wrong = self.wrong_rejection(line, *draw.choice(WAYS[:2]), feed=self.feed)
         put_files(self.folder, files)
         return wrong and f"with the state {there.get('state')!r}, {wrong}"
 
-    def wrong_if_shorter(self, draw: random.Random) -> str | None:
-        """What is wrong with the position if the state lacks bytes of the line that has begun, or None: it is an earlier commit."""
-        if not self.commit.rest:
-            return None
-        files, count = files_in(self.folder), draw.randint(1, len(self.commit.rest))
-        put_files(self.folder, {**files, "state": files["state"][:-count]})
-        came = self.call(QUERY_FILE, *itertools.chain(*self.options.words()), "--folder", FOLDER, "--position")
-        put_files(self.folder, files)
-        good = came == Came(0, f"{self.commit.position - count}\n".encode(), b"")
-        return None if good else f"the position of {self.commit} without its last {count} bytes: {came}"
-
 
 def rejected(line: str) -> Came:
     return Came(1, b"", f"tilt: {line}\n".encode())
+
+
+def other_byte(draw: random.Random, byte: int) -> bytes:
+    return bytes([(byte + draw.randint(1, 255)) % 256])
 
 
 def changes(before: dict[str, bytes], after: dict[str, bytes]) -> str:

@@ -9,6 +9,8 @@ What is expected is worked out from the bytes alone, by tools/check/readings.py 
 of rows, and for that the program has to print the same. Some texts without bad lines become series, by `tilt-data series`. What `tilt run`
 prints for these has to go on from what the program prints. Some outputs have dates and decimals, by Python's `datetime`.
 
+Some feeds are cut into calls: each one goes on from the state that the one before it saved, or from what a folder holds.
+
 Of each run that differs, the query, the feed and the difference are printed. The check stops after 20 of them, since each may have waited
 long. The last line is 'N passed, M failed', and the status is 1 if one failed."""
 from __future__ import annotations
@@ -28,7 +30,7 @@ sys.path.insert(0, os.path.dirname(os.path.dirname(os.path.realpath(__file__))))
 
 from check.feeds import Change, Feed, Query, T, empty_feed, line_text, query_of
 from check.live import BYTE_ORDER_MARK, MOST_FAILED, BadLine, Expected, Options, difference, random_pieces, shown, text_of_output
-from check.live_sessions import Came, run
+from check.live_sessions import Came, random_cuts, run, session_expected
 from check.random_feeds import random_query
 from check.reading_texts import random_form, random_lines, random_text, words_of
 from check.readings import FARTHEST, NO_END_OF_LINE, Form, Readings, fields_of, moment_of, updates_between
@@ -66,9 +68,18 @@ MORE_ARGUMENTS = [
     "--tick 1s",
     "--max-age 5s --event",
     "--ties",
-    "--folder f --position",
+    "--folder f --position --every 2",
 ]
-MORE_ARGUMENTS += ["--folder f", "--from 0", "--every 1", "--position", "--resume s", "--save s", "--lateness 5", "--idle 5", "--ahead 5"]
+MORE_ARGUMENTS += [
+    "--folder f --save s",
+    "--folder f --resume s",
+    "--from 0",
+    "--every 1",
+    "--position",
+    "--lateness 5",
+    "--idle 5",
+    "--ahead 5",
+]
 BAD_VALUES = {
     "unit": "min S 1 s,ms",
     "max-age": "0s 1500ms 1 s -1s 1s=2s",
@@ -214,6 +225,46 @@ class Place:
         came = run([self.live, "query.tilt"], self.folder, "".join(case.rows).encode())
         return None if came == wanted else f"as rows {case.rows}: expected {wanted}came {came}"
 
+    def check_calls(self, draw: random.Random, base: int, tally: Tally) -> None:
+        """A feed that is cut into calls."""
+        form, style = random_form(draw, self.query.inputs, base), random_style(draw)
+        options = dataclasses.replace(random_options(draw), strict=False)
+        feed = random_text(draw, random_lines(draw, form, self.query.inputs, base, draw.choice([0.0, 0.05, 0.2])))
+        expected = case_of(self.query, feed, form, options).expected
+        if expected.status != 0:
+            return
+        expected.out[:] = [style.text_of(form, out) for out in expected.out]
+        words = [self.live, "query.tilt", *shuffled(draw, words_of(draw, form, self.query.inputs) + options.words() + style.words())]
+        cuts = random_cuts(draw, feed)
+        wrong = self.wrong_states(words, feed, expected, cuts) or self.wrong_folder(words, feed, expected, cuts)
+        tally.expect(wrong is None, f"{words} with {cuts}\n{self.text}{shown(feed)}\n{wrong}\n")
+
+    def wrong_states(self, words: Sequence[str], feed: bytes, expected: Expected, cuts: Sequence[int]) -> str | None:
+        """What is wrong with calls that go on from the states of those before them, or None."""
+        place, resume, first = 0, list[str](), b""
+        for end in cuts:
+            if end >= place:
+                wanted = session_expected(expected, feed, place, end, NO_END_OF_LINE)
+                if place == 0:
+                    wanted = dataclasses.replace(wanted, out=wanted.out.removeprefix(first))
+                came = run([*words, "--save", "state", *resume], self.folder, feed[place:end])
+                if came != wanted:
+                    return f"from byte {place} to {end}, expected {wanted}came {came}"
+                place, resume, first = feed.rfind(b"\n", 0, end) + 1, ["--resume", "state"], expected.out[0]
+        return None
+
+    def wrong_folder(self, words: Sequence[str], feed: bytes, expected: Expected, cuts: Sequence[int]) -> str | None:
+        """What is wrong with calls that each read a longer front of a feed into one folder, or None."""
+        with tempfile.TemporaryDirectory(dir=self.folder) as folder:
+            for end in cuts:
+                came = run([*words, "--folder", os.path.basename(folder)], self.folder, feed[:end])
+                with open(os.path.join(folder, "output.csv"), "rb") as file:
+                    out = file.read()
+                wanted = expected.after_lines(feed[:end].count(b"\n"))[0]
+                if came.status != 0 or came.out or out != wanted:
+                    return f"up to byte {end}, expected in the folder:\n{shown(wanted)}came {came}and there:\n{shown(out)}"
+        return None
+
     def check_series(self, draw: random.Random, base: int, tally: Tally) -> None:
         """A feed whose readings become series, by the same options, of which a query has all rows at once."""
         names = self.query.inputs
@@ -278,6 +329,7 @@ def check_query(draw: random.Random, live: str, tilt: str, number: int, tally: T
         place = Place(folder, live, tilt, text, query_of(text))
         for _ in range(FEEDS_OF_EACH_QUERY):
             place.check_feed(draw, base, tally)
+        place.check_calls(draw, base, tally)
         if number % WHOLE == 0 and base == 0:
             place.check_series(draw, base, tally)
 
@@ -294,6 +346,20 @@ def check_arguments(live: str, tally: Tally) -> None:
         tally.expect(came == wanted and names == ["query.tilt"], f"{words}: expected {wanted}came {came}and {names}")
 
 
+def check_other_states(live: str, tally: Tally) -> None:
+    """States that were saved with other options."""
+    pairs = [(TIMES, f"{TIMES} --event"), (TIMES, f"{TIMES} --scale 10"), (TIMES, ""), ("", TIMES), (TIMES, TIMES.replace("1s", "2s"))]
+    for saved, resumed in pairs + [(f"{TIMES} --scale 10", f"{TIMES} --scale x=10"), ("--begun", "")]:
+        with tempfile.TemporaryDirectory() as folder:
+            with open(os.path.join(folder, "query.tilt"), "w", encoding="ascii") as file:
+                file.write("input x;\nemit x over (0, 5];\n")
+            first = run([live, "query.tilt", *saved.split(), "--save", "state"], folder, b"")
+            came = run([live, "query.tilt", *resumed.split(), "--resume", "state"], folder, b"")
+        same = "x=10" in resumed or not (saved + resumed).replace("--begun", "")
+        wanted = Came(0, b"", b"") if same else Came(1, b"", b"tilt: 59 state of other options\n")
+        tally.expect(first.status == 0 and came == wanted, f"{saved} and {resumed}: expected {wanted}came {came}")
+
+
 def main(arguments: Sequence[str]) -> int:
     words = argparse.ArgumentParser(description="Runs random feeds of readings through random queries.")
     words.add_argument("queries", nargs="?", type=int, default=QUERIES, help="how many queries")
@@ -308,6 +374,7 @@ def main(arguments: Sequence[str]) -> int:
             tally.expect(False, f"{program} isn't built")
             return tally.end()
     check_arguments(live, tally)
+    check_other_states(live, tally)
     for number in range(chosen.queries):
         if tally.failed < MOST_FAILED:
             check_query(draw, live, tilt, number, tally)

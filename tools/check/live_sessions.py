@@ -54,14 +54,14 @@ def run(words: Sequence[str], folder: str, feed: bytes) -> Came:
     return Came(done.returncode, done.stdout, done.stderr)
 
 
-def session_expected(expected: Expected, text: bytes, begin: int, end: int) -> Came:
+def session_expected(expected: Expected, text: bytes, begin: int, end: int, no_end: str = NO_END_OF_LINE) -> Came:
     """What a session prints for the bytes of a feed between two places, of which the first one is after an LF."""
     before, after = text[:begin].count(b"\n"), text[:end].count(b"\n")
     out_before, err_before = expected.after_lines(before) if begin else (b"", b"")
     out, err = expected.after_lines(after)
     report = b""
     if end > text.rfind(b"\n", 0, end) + 1:
-        report = f"tilt: {NO_END_OF_LINE.format(after + 1)}\n".encode()
+        report = f"tilt: {no_end.format(after + 1)}\n".encode()
     return Came(0, out[len(out_before) :], err[len(err_before) :] + report)
 
 

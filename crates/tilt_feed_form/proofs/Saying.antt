@@ -31,7 +31,7 @@ use Rattle.tilt_reading_text.specs.Said as readings
 use Rattle.tilt_reading_text.specs.Said.Content.{Blank, Header, Readings}
 use Rattle.tilt_reading_text.specs.declared.bad_reading_line.BadReadingLine.{BadReadingLine}
 use Rattle.tilt_reading_text.specs.declared.bad_reading_line.BadReadingLine.TheVariants as bad_reading
-use Rattle.tilt_reading_text.specs.declared.form.ReadingForm.{ReadingForm}
+use Rattle.tilt_reading_text.specs.Form.{FormValue}
 use Rattle.tilt_watermarks.specs.Laws.{stepped}
 use Rattle.tilt_watermarks.specs.Steps.{Kept}
 use Rattle.tilt_watermarks.specs.Steps as steps
@@ -68,7 +68,7 @@ reading_bad (Ok (Header layout)) kept why e = absurd (cc e)
 reading_bad (Ok (Readings said)) kept why e = reading_refused said kept why (feed.line_fault kept.feed said) refl e
 reading_bad (Err w) kept why e = refl
 
-pub reading-bad : (form : ReadingForm) (line : List ℕ) (kept : readings.TextKept) (why : BadReadingLine) → readings.line_fault form kept line ≡ Some why
+pub reading-bad : (form : FormValue) (line : List ℕ) (kept : readings.TextKept) (why : BadReadingLine) → readings.line_fault form kept line ≡ Some why
     → readings.line_step form line kept ≡ record { kept = kept; events = [] }
 reading-bad form line kept why e = reading_bad (readings.content form kept.layout line) kept why e
 

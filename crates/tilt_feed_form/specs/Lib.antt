@@ -1,3 +1,4 @@
+pub mod Kept
 pub mod Machine
 pub mod Report
 pub mod Said

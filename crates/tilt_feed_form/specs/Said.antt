@@ -37,14 +37,10 @@ pub record FeedState : Type 0 where
   pub kept : TextKept
   pub feed : Feed
 
--- what is asked of the watermarks of a feed, and what they keep, if it is one of rows
+-- what is asked of the watermarks of a feed, if it is one of rows
 abbrev pub options_if_rows : FeedForm → Option Options
 options_if_rows (forms.Rows options) = Some options
 options_if_rows (forms.Readings setup) = None
-
-abbrev pub kept_if_rows : TextKept → Option Kept
-kept_if_rows (OfRows kept) = Some kept
-kept_if_rows (OfReadings kept) = None
 
 -- what is kept of a feed of so many inputs before its first line
 abbrev pub first_kept : FeedForm → ℕ → TextKept

@@ -4,6 +4,7 @@ ghost use Rattle.tilt_feed_form.specs.declared.bad_feed_line.BadFeedLine.TheVari
 
 use crate::bad_feed_line::BadFeedLine;
 use crate::feed_form::FeedForm;
+use crate::kept_feed::KeptFeed;
 use crate::reading_lines::ReadingLines;
 use crate::row_lines::RowLines;
 use std::alloc::{AllocError as OutOfMemory, Global};
@@ -11,7 +12,7 @@ use tilt_feed::Event;
 use tilt_feed_text::BadLine;
 use tilt_lexer::Name;
 use tilt_reading_text::BadReadingLine;
-use tilt_watermarks::{KeptState, Options, Watermarks};
+use tilt_watermarks::{Options, Watermarks};
 
 /// The text of a feed: it takes its lines, one after another, and hands on the events of the feed.
 #[derive(Drop)]
@@ -27,14 +28,10 @@ enum FeedLines {
 }
 
 impl FeedText {
-    ghost use Rattle.std.specs.List.{AllByRecursion};
-    ghost use Rattle.std.specs.Option.{IfSome};
     ghost use Rattle.std.specs.Prelude.{◌<◌, ◌^◌, [], IfOk, OnErr, length};
+    ghost use Rattle.tilt_feed_form.specs.Kept.{FitsForm, IsOfForm, bare_kept, kept_with};
     ghost use Rattle.tilt_feed_form.specs.Machine.{form_of, kept_of};
-    ghost use Rattle.tilt_feed_form.specs.Said.{first_kept, is_headless, kept_if_rows, line_fault, line_step, no_end, options_if_rows};
-    ghost use Rattle.tilt_feed_form.specs.Said.TextKept.{OfRows};
-    ghost use Rattle.tilt_watermarks.specs.Laws.{IsFit};
-    ghost use Rattle.tilt_watermarks.specs.Steps.{Kept};
+    ghost use Rattle.tilt_feed_form.specs.Said.{first_kept, is_headless, line_fault, line_step, no_end, options_if_rows};
 
     /// The text of a feed of this many inputs before its first line. `OutOfMemory` comes if memory runs out, and for no other reason.
     pub fn new(alloc: Global, form: FeedForm, inputs: u32) -> Result<FeedText, OutOfMemory>
@@ -54,21 +51,30 @@ impl FeedText {
         }
     }
 
-    /// The text of a feed of rows that goes on from what its watermarks kept. `OutOfMemory` comes if memory runs out, and for no other
-    /// reason.
-    pub fn resume_rows(
-        alloc: Global,
-        options: Options,
-        kept: &KeptState,
-    ) -> Result<FeedText, OutOfMemory>
-        requires few { length kept.now.inputs < 2 ^ 32 }
-        requires fit { AllByRecursion (IsFit options.lateness) kept.now.inputs }
-        ensures form { IfOk result (λ text. form_of text ≡ FeedForm.Rows options) }
-        ensures kept { IfOk result (λ text. kept_of text ≡ OfRows kept.now) }
+    /// The text of a feed of this form that goes on from what was kept of another one. Whatever lines come, it does with them what that one
+    /// would have done. `OutOfMemory` comes if memory runs out, and for no other reason.
+    pub fn resume(alloc: Global, form: FeedForm, kept: &KeptFeed) -> Result<FeedText, OutOfMemory>
+        requires { FitsForm form kept.now }
+        ensures form { IfOk result (λ text. form_of text ≡ form) }
+        ensures kept { IfOk result (λ text. kept_of text ≡ kept_with form kept.now) }
     {
-        let watermarks = Watermarks::resume(alloc, options, kept)?;
-        let lines = FeedLines::Rows(RowLines::new(alloc, watermarks));
-        Ok(FeedText { lines })
+        match form {
+            FeedForm::Rows { options } => {
+                let KeptFeed::Rows { kept } = kept else {
+                    unreachable!()
+                };
+                let watermarks = Watermarks::resume(alloc, options, kept)?;
+                let lines = FeedLines::Rows(RowLines::new(alloc, watermarks));
+                Ok(FeedText { lines })
+            }
+            FeedForm::Readings { setup } => {
+                let KeptFeed::Readings { kept } = kept else {
+                    unreachable!()
+                };
+                let lines = FeedLines::Readings(ReadingLines::resume(alloc, setup, kept)?);
+                Ok(FeedText { lines })
+            }
+        }
     }
 
     /// Takes the line with a number, which is how many lines are before it. The line comes without its LF. Its events replace what is in
@@ -127,17 +133,20 @@ impl FeedText {
         }
     }
 
-    /// What its watermarks keep, if the feed is one of rows, so that another text can go on from it. `OutOfMemory` comes if memory runs
-    /// out, and for no other reason.
-    pub fn kept_rows(&self, alloc: Global) -> Result<Option<KeptState>, OutOfMemory>
-        ensures kept { IfOk result (λ kept. kept ≡ kept_if_rows (kept_of self.now)) }
-        ensures few { IfSome (kept_if_rows (kept_of self.now)) (λ kept. length kept.inputs < 2 ^ 32) }
-        ensures fit { (options : Options) → form_of self.now ≡ FeedForm.Rows options
-            → IfOk result (λ kept. IfSome kept (λ kept. AllByRecursion (IsFit options.lateness) kept.inputs)) }
+    /// What it keeps, so that another text of its form can go on from it. `OutOfMemory` comes if memory runs out, and for no other reason.
+    pub fn kept(&self, alloc: Global) -> Result<KeptFeed, OutOfMemory>
+        ensures kept { IfOk result (λ kept. kept ≡ bare_kept (kept_of self.now)) }
+        ensures fits { IsOfForm (form_of self.now) (kept_of self.now) → IfOk result (λ kept. FitsForm (form_of self.now) kept) }
     {
         match &self.lines {
-            FeedLines::Rows(lines) => Ok(Some(lines.watermarks.kept(alloc)?)),
-            FeedLines::Readings(_) => Ok(None),
+            FeedLines::Rows(lines) => {
+                let kept = lines.watermarks.kept(alloc)?;
+                Ok(KeptFeed::Rows { kept })
+            }
+            FeedLines::Readings(lines) => {
+                let kept = lines.text.kept(alloc)?;
+                Ok(KeptFeed::Readings { kept })
+            }
         }
     }
 

@@ -14,6 +14,7 @@
 mod bad_feed_line;
 mod feed_form;
 mod feed_text;
+mod kept_feed;
 mod reading_lines;
 mod reading_setup;
 mod report;
@@ -22,5 +23,6 @@ mod row_lines;
 pub use bad_feed_line::BadFeedLine;
 pub use feed_form::FeedForm;
 pub use feed_text::FeedText;
+pub use kept_feed::KeptFeed;
 pub use reading_setup::ReadingSetup;
 pub use report::put_report;

@@ -1,6 +1,9 @@
 // Lines of readings.
-ghost use Rattle.std.specs.Prelude.{◌≡◌, ◌++◌, IfOk, if◌then◌else◌, is_ok};
+ghost use Rattle.std.specs.Prelude.{◌≡◌, ◌++◌, IfOk, if◌then◌else◌, is_ok, length, true};
+ghost use Rattle.std.specs.List.{AllByRecursion};
+ghost use Rattle.tilt_conventions.specs.Resumable.{fits};
 ghost use Rattle.tilt_feed_form.specs.Setup.{SetupParts};
+ghost use Rattle.tilt_reading_text.specs.Kept.{text_with};
 ghost use Rattle.tilt_reading_text.specs.Machine.{form_of, text_kept};
 ghost use Rattle.tilt_reading_text.specs.Said.{first_kept, line_fault, line_step};
 
@@ -8,7 +11,7 @@ use crate::reading_setup::ReadingSetup;
 use std::alloc::{AllocError as OutOfMemory, Global};
 use tilt_conventions::Options;
 use tilt_feed::Event;
-use tilt_reading_text::{BadReadingLine, ReadingText, TakeLineError};
+use tilt_reading_text::{BadReadingLine, KeptText, ReadingText, TakeLineError};
 
 // A text of readings, and what the readings of each input mean.
 #[derive(Drop)]
@@ -26,6 +29,23 @@ impl ReadingLines {
     {
         let (form, options) = setup.into_parts();
         let text = ReadingText::new(alloc, form, &options)?;
+        Ok(ReadingLines { text, options })
+    }
+
+    // The lines of a feed that go on from what was kept of others.
+    pub(crate) fn resume(
+        alloc: Global,
+        setup: ReadingSetup,
+        kept: &KeptText,
+    ) -> Result<ReadingLines, OutOfMemory>
+        requires each { length kept.now.readings.inputs ≡ length setup.options }
+        requires fit { AllByRecursion (λ input. fits input ≡ true) kept.now.readings.inputs }
+        ensures form { IfOk result (λ lines. form_of lines.text ≡ setup.form) }
+        ensures options { IfOk result (λ lines. lines.options.items ≡ setup.options) }
+        ensures kept { IfOk result (λ lines. text_kept lines.text ≡ text_with setup.options kept.now) }
+    {
+        let (form, options) = setup.into_parts();
+        let text = ReadingText::resume(alloc, form, &options, kept)?;
         Ok(ReadingLines { text, options })
     }
 

@@ -28,7 +28,7 @@ impl Model for ReadingSetup {
 impl ReadingSetup {
     /// The setup of a feed whose lines have this form, and the readings of whose inputs mean this, in the order of the sources.
     pub fn new(form: ReadingForm, options: Vec<Options>) -> ReadingSetup
-        requires sources { length form.sources.items < 2 ^ 32 }
+        requires sources { length form.sources < 2 ^ 32 }
         requires few { length options.items < 2 ^ 32 }
         requires ages { HoldTicks options.items }
         ensures form { result.form ≡ form }
@@ -37,11 +37,25 @@ impl ReadingSetup {
         ReadingSetup { form, options }
     }
 
+    /// How the lines are written.
+    pub fn form(&self) -> &ReadingForm
+        ensures { result.now ≡ self.now.form }
+    {
+        &self.form
+    }
+
+    /// What the readings of each input mean, in the order of the sources.
+    pub fn options(&self) -> &[Options]
+        ensures { result.now ≡ self.now.options }
+    {
+        &self.options
+    }
+
     // The form of the lines, and what the readings of each input mean.
     pub(crate) fn into_parts(self) -> (ReadingForm, Vec<Options>)
         ensures form { result.0 ≡ self.form }
         ensures options { result.1.items ≡ self.options }
-        ensures sources { length result.0.sources.items < 2 ^ 32 }
+        ensures sources { length result.0.sources < 2 ^ 32 }
         ensures few { length result.1.items < 2 ^ 32 }
         ensures ages { HoldTicks result.1.items }
     {

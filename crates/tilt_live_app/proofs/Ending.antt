@@ -21,15 +21,18 @@ use Rattle.tilt_live_app.specs.declared.failure.Halt.{Halt}
 use Rattle.tilt_live_app.specs.declared.failure.Halt.TheVariants as halt
 use Rattle.tilt_cli.specs.declared.fault.WordsFault.{WordsFault}
 use Rattle.tilt_cli.specs.declared.fault.WordsFault.TheVariants.{OutOfMemory, Usage}
+use Rattle.tilt_live_run.proofs.Leaving.{left-asked}
 use Rattle.tilt_live_run.specs.Left.{state_left}
 use Rattle.tilt_live_run.specs.Reported.{Reported}
 use Rattle.tilt_live_run.specs.declared.live_run.LiveRun.{LiveRun}
-use Rattle.tilt_live_state.specs.Spelling.{spelled}
 use Rattle.tilt_live_state.specs.Valid.{IsStateOf}
 use Rattle.tilt_outside.specs.Counts.{added_count}
 use Rattle.tilt_outside.specs.Reads.{OnlyReads}
 use Rattle.tilt_port.specs.Transcript.{Transcript}
 use Rattle.tilt_report.specs.Report.{line_of, report_of_words, status_of}
+use Rattle.tilt_run_state.specs.Spelling.{opening as opened, spelled}
+use Rattle.tilt_run_state.specs.State.{RunStateParts}
+use Rattle.tilt_run_state.specs.Valid.{FitsForm}
 use Rattle.tilt_syntax.specs.Tree.{StatementTree}
 use Rattle.tilt_types.specs.Checked.{core_of}
 
@@ -59,13 +62,13 @@ module _ {S : Type 0} (tells : Type 0) (files : S → List ℕ → List ℕ) (re
     rose = rw (← reads.same_save_faults) unsaved.rose;
   }
 
-  pub kept-first : (run : LiveRun) (query : List StatementTree) (written : ℕ) (name : List ℕ) (result : Result (Unit {0}) Failure)
-      → HasKept run query written then name result → HasKept run query written first name result
-  kept-first run query written name (Ok u) (text, of, saved) = (text, of, saved-first name text saved)
-  kept-first run query written name (Err (Unsaved file)) (same, (text, of, unsaved)) = (same, (text, of, unsaved-first name text unsaved))
-  kept-first run query written name (Err Unmade) kept = tt
-  kept-first run query written name (Err (Unbegun fault)) kept = absurd kept
-  kept-first run query written name (Err (Halted why)) kept = absurd kept
+  pub kept-first : (run : LiveRun) (query : List StatementTree) (opening : List ℕ) (written : ℕ) (name : List ℕ) (result : Result (Unit {0}) Failure)
+      → HasKept run query opening written then name result → HasKept run query opening written first name result
+  kept-first run query opening written name (Ok u) (text, of, saved) = (text, of, saved-first name text saved)
+  kept-first run query opening written name (Err (Unsaved file)) (same, (text, of, unsaved)) = (same, (text, of, unsaved-first name text unsaved))
+  kept-first run query opening written name (Err Unmade) kept = tt
+  kept-first run query opening written name (Err (Unbegun fault)) kept = absurd kept
+  kept-first run query opening written name (Err (Halted why)) kept = absurd kept
 
   pub rest-first : (result : Result (Unit {0}) Failure) → IfErr result (λ failure. (IsSaveFailure failure → ⊥) → new ≡ mid)
       → IfErr result (λ failure. (IsSaveFailure failure → ⊥) → OnlyReads files read_faults save_faults takes old new)
@@ -106,23 +109,29 @@ module _ {K : Type 0} (shelf : ShelfChange) (tells : Type 0) (old new : Transcri
     run-unkept none = not_kept none served-whole
 
     -- or its state is
-    module _ (is_accepted : IsAccepted begun.query) (core_of_is : begun.core ≡ core_of begun.query) (written : ℕ)
+    module _ (is_accepted : IsAccepted begun.query) (core_of_is : begun.core ≡ core_of begun.query) (opening : List ℕ)
+        (opens : opening ≡ opened begun.options.form) (written : ℕ)
         (counted : tells → written ≡ added_count (written_before begun.from) (added_count 0 (length new.written) - added_count 0 (length old.written)))
         (name : List ℕ) (save : command.save ≡ Some name) where
-      text-after : (text bytes : List ℕ) → IsTextOfRun run begun.query written text → IsRunAt run accepted begun.options bytes
+      text-after : (text bytes : List ℕ) → IsTextOfRun run begun.query opening written text → IsRunAt run accepted begun.options bytes
           → IsTextAfter begun.options begun.core tells old new begun.query begun.from text bytes
       text-after text bytes of at =
-          let is = of accepted begun.options bytes at in
-          let left = state_left begun.options begun.core begun.query (ended bytes) written in
-          let run_is = subst (λ (core : CoreParts). IsStateOf core (state_left begun.options core begun.query (ended bytes) written)) core_is is.1 in
+          let is = of accepted begun.options bytes at opens in
+          let options = begun.options in
+          let left : CoreParts → RunStateParts = λ core. state_left options core begun.query (ended bytes) written in
+          let run_is = subst (λ (core : CoreParts). IsStateOf core (left core).state) core_is is.1 in
           record {
             written = written;
             counted = counted;
-            is_text = subst (λ (core : CoreParts). text ≡ spelled (state_left begun.options core begun.query (ended bytes) written)) core_is is.0;
-            valid = record { query = is_accepted; run = subst (λ (core : CoreParts). IsStateOf core left) core_of_is run_is };
+            is_text = subst (λ (core : CoreParts). text ≡ spelled options.form (left core)) core_is is.0;
+            valid = record {
+              state = record { query = is_accepted; run = subst (λ (core : CoreParts). IsStateOf core (left begun.core).state) core_of_is run_is };
+              kept = subst (λ (core : CoreParts). FitsForm options.form (left core)) core_is is.2;
+              options = left-asked options.form (left begun.core) refl;
+            };
           }
 
-      to-save : (text : List ℕ) → IsTextOfRun run begun.query written text
+      to-save : (text : List ℕ) → IsTextOfRun run begun.query opening written text
           → IsToSave shelf tells old new err_tells err_written err_faults command text name err err_then
       to-save text of = record {
         save = save;
@@ -133,7 +142,7 @@ module _ {K : Type 0} (shelf : ShelfChange) (tells : Type 0) (old new : Transcri
         };
       }
 
-      pub run-kept : (result : Result (Unit {0}) Failure) → HasKept run begun.query written shelf name result
+      pub run-kept : (result : Result (Unit {0}) Failure) → HasKept run begun.query opening written shelf name result
           → HasRun shelf tells old new err_tells err_written err_faults command err err_then result
       run-kept (Ok u) (text, of, saved) = with_state text name (to-save text of) saved
       run-kept (Err (Unsaved file)) (same, (text, of, unsaved)) = rw same (text, to-save text of, unsaved)

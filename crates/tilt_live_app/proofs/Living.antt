@@ -5,7 +5,7 @@ use Rattle.tilt_checkpoint.specs.Valid.{IsAccepted}
 use Rattle.tilt_compiler.specs.Accepted.{AcceptedParts, IsAccepted as IsCompiled}
 use Rattle.tilt_core.specs.Core.{CoreParts}
 use Rattle.tilt_live_app.specs.Arguments.{CommandValue}
-use Rattle.tilt_live_app.specs.Asked.{IsUnchosen}
+use Rattle.tilt_live_app.specs.Asked.{IsUnchosen, form_asked}
 use Rattle.tilt_live_app.specs.BeginReport.{BeginReport, no_input, shared}
 use Rattle.tilt_live_app.specs.Begun.{HasTaken, IsUnbegun, no_memory, refused, state_refused, state_unread, unread, unscaled}
 use Rattle.tilt_live_app.specs.Change.{shelf_change}
@@ -43,12 +43,13 @@ module _ {S : Type 0} (tells : Type 0) (files : S → List ℕ → List ℕ) (re
   -- a state that wasn't loaded, after the query was
   pub state-unbegun : (old mid new : S) (file : List ℕ) (query : List StatementTree) (core : CoreParts) → OnlyReads files read_faults save_faults takes old mid
       → command.resume ≡ Some file → HasTaken tells (files old command.query) query core → (report : Report)
-      → IsLoadFault tells (RefusesState query command.asked.watermarks file (files mid file)) (λ which. which ≡ file) (read_faults mid) (read_faults new) report
+      → IsLoadFault tells (RefusesState query (form_asked command.readings command.asked.watermarks core.inputs) file (files mid file)) (λ which. which ≡ file)
+      (read_faults mid) (read_faults new) report
       → IsUnbegun (shelf_change tells files read_faults save_faults old new) command (shared report)
   state-unbegun old mid new file query core reads is taken usage fault = absurd fault
   state-unbegun old mid new file query core reads is taken (refusal why) fault =
       let same = ap (λ (held : List ℕ → List ℕ). held file) reads.same_files in
-      state_refused file query core is taken (λ t. subst (λ (bytes : List ℕ). RefusesState query command.asked.watermarks file bytes why) same (fault t))
+      state_refused file query core is taken (λ t. subst (λ (bytes : List ℕ). RefusesState query (form_asked command.readings command.asked.watermarks core.inputs) file bytes why) same (fault t))
   state-unbegun old mid new file query core reads is taken (read_fault name) fault =
       rw fault.1 (state_unread file is (rose_from (read_faults old) (read_faults mid) (read_faults new) reads.no_fewer_read_faults fault.0))
   state-unbegun old mid new file query core reads is taken write_fault fault = absurd fault

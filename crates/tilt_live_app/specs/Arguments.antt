@@ -9,7 +9,7 @@ use Rattle.tilt_live_app.specs.declared.arguments.FolderChoice.{FolderChoice}
 use Rattle.tilt_live_app.specs.declared.arguments.LiveCommand.{LiveCommand}
 use Rattle.tilt_live_app.specs.declared.arguments.Task.{Task}
 use Rattle.tilt_live_app.specs.declared.arguments.Task.TheVariants.{Position, Serve}
-use Rattle.tilt_live_folder.specs.declared.row_options.RowOptions.{RowOptions}
+use Rattle.tilt_live_app.specs.declared.asked.Asked.{Asked}
 use Rattle.tilt_live_run.specs.declared.display.Display.{Display}
 use Rattle.tilt_reading_options.specs.Values.{ChoiceValue}
 use Rattle.tilt_row_text.specs.declared.times.Times.TheVariants.{Ticks}
@@ -19,15 +19,15 @@ abbrev pub number_or : ℕ → Option ℕ → ℕ
 number_or other None = other
 number_or other (Some n) = n
 
--- what they ask to be written, and how: rows of ticks, and values with so many decimals
+-- what they ask to be written, and how: times as ticks, and values with so many decimals
 abbrev pub display_asked : List SettingValue → Display
 display_asked settings = record {
   with_begun = is_set (codes "--begun") settings;
   style = record { times = Ticks; decimals = min (number_or 0 (ticks_of (set_to (codes "--decimals") settings))) 19 };
 }
 
--- what the options ask of a run whose feed has rows
-abbrev pub asked_options : List SettingValue → RowOptions
+-- what the options ask of a run
+abbrev pub asked_options : List SettingValue → Asked
 asked_options settings = record {
   display = display_asked settings;
   strict = is_set (codes "--strict") settings;
@@ -65,17 +65,11 @@ pub record CommandValue : Type 0 where
   pub query : List ℕ
   pub plain : Bool
   pub dated : Bool
-  pub asked : RowOptions
+  pub asked : Asked
   pub readings : Option ChoiceValue
   pub resume : Option (List ℕ)
   pub save : Option (List ℕ)
   pub folder : Option FolderValue
-
--- a state or a folder is chosen only for a feed of rows
-pub record AreOfRows (command : CommandValue) : Type 0 where
-  pub resume : (file : List ℕ) → command.resume ≡ Some file → command.readings ≡ None
-  pub save : (file : List ℕ) → command.save ≡ Some file → command.readings ≡ None
-  pub folder : (choice : FolderValue) → command.folder ≡ Some choice → command.readings ≡ None
 
 -- the arguments are this command: the file of its query, and then options that fit together, in any order, and no binds
 pub record IsLiveCommand (words : List (List ℕ)) (command : CommandValue) : Type 0 where

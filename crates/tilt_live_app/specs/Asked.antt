@@ -1,5 +1,5 @@
 -- What a command asks of the run of a query (our own rule).
-use Rattle.std.specs.Prelude.{◌≡◌, ℕ, Bool, if◌then◌else◌, List, Option, None, Some}
+use Rattle.std.specs.Prelude.{◌≡◌, ⊤, ℕ, Bool, if◌then◌else◌, List, Option, None, Some}
 use Rattle.tilt_feed_form.specs.Setup.{SetupParts}
 use Rattle.tilt_feed_form.specs.declared.feed_form.FeedForm.TheVariants.{Readings, Rows}
 use Rattle.tilt_feed_form.specs.declared.feed_form.FeedForm.{FeedForm}
@@ -7,17 +7,16 @@ use Rattle.tilt_live_app.specs.Arguments.{CommandValue}
 use Rattle.tilt_live_app.specs.BeginReport.{BeginReport, no_input, shared}
 use Rattle.tilt_live_run.specs.declared.display.Display.{Display}
 use Rattle.tilt_live_run.specs.declared.run_options.RunOptions.{RunOptions}
-use Rattle.tilt_reading_options.specs.Form.{IsFormOf, missing_input}
+use Rattle.tilt_reading_options.specs.Form.{form_for, missing_input, options_for}
 use Rattle.tilt_reading_options.specs.Values.{ChoiceValue}
 use Rattle.tilt_report.specs.Report.{out_of_memory}
 use Rattle.tilt_row_text.specs.declared.times.Times.TheVariants.{Dates, Ticks}
 use Rattle.tilt_row_text.specs.declared.times.Times.{Times}
 use Rattle.tilt_watermarks.specs.declared.options.Options.{Options}
 
--- readings of inputs with these names are written so, and mean this, by a choice; no name in its scales is missing
-pub record IsChosen (choice : ChoiceValue) (inputs : List (List ℕ)) (setup : SetupParts) : Type 0 where
-  pub form : IsFormOf choice inputs setup.form setup.options
-  pub scaled : missing_input choice inputs ≡ None
+-- how readings of inputs with these names are written and what they mean, by a choice
+abbrev pub setup_for : ChoiceValue → List (List ℕ) → SetupParts
+setup_for choice inputs = record { form = form_for choice inputs; options = options_for choice inputs }
 
 -- why a choice isn't one for inputs with these names: a name in its scales is missing, or there is no memory
 abbrev pub IsUnchosen : ChoiceValue → List (List ℕ) → BeginReport → Type 0
@@ -25,10 +24,14 @@ IsUnchosen choice inputs (no_input name) = missing_input choice inputs ≡ Some 
 IsUnchosen choice inputs (shared report) = report ≡ out_of_memory
 
 -- the form of a feed: rows, with these options of its watermarks; or readings, if the options of readings say a choice
-abbrev pub IsFormAsked : Option ChoiceValue → Options → List (List ℕ) → FeedForm → Type 0
-IsFormAsked None watermarks inputs form = form ≡ Rows watermarks
-IsFormAsked (Some choice) watermarks inputs (Rows options) = ⊥
-IsFormAsked (Some choice) watermarks inputs (Readings setup) = IsChosen choice inputs setup
+abbrev pub form_asked : Option ChoiceValue → Options → List (List ℕ) → FeedForm
+form_asked None watermarks inputs = Rows watermarks
+form_asked (Some choice) watermarks inputs = Readings (setup_for choice inputs)
+
+-- no name in the scales of a choice is missing
+abbrev pub IsScaled : Option ChoiceValue → List (List ℕ) → Type 0
+IsScaled None inputs = ⊤
+IsScaled (Some choice) inputs = missing_input choice inputs ≡ None
 
 -- how the times of readings are written
 abbrev pub times_for : ChoiceValue → Bool → Times
@@ -42,8 +45,10 @@ display_for (Some choice) dated display = record {
   style = record { times = times_for choice dated; decimals = display.style.decimals };
 }
 
--- a command asks for this run, for inputs with these names
-pub record IsAsked (command : CommandValue) (inputs : List (List ℕ)) (options : RunOptions) : Type 0 where
-  pub display : options.display ≡ display_for command.readings command.dated command.asked.display
-  pub strict : options.strict ≡ command.asked.strict
-  pub form : IsFormAsked command.readings command.asked.watermarks inputs options.form
+-- the options of the run that a command asks for, for inputs with these names
+abbrev pub options_asked : CommandValue → List (List ℕ) → RunOptions
+options_asked command inputs = record {
+  display = display_for command.readings command.dated command.asked.display;
+  strict = command.asked.strict;
+  form = form_asked command.readings command.asked.watermarks inputs;
+}

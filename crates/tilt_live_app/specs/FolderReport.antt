@@ -66,6 +66,7 @@ end_of_halt name halt.ReadFault = shared (read_fault (codes "-"))
 end_of_halt name halt.Failed = shared (save_fault name)
 end_of_halt name halt.Gap = own fault.Gap
 end_of_halt name halt.Short = own fault.ShortFeed
+end_of_halt name halt.Changed = own fault.ChangedFeed
 
 -- either
 abbrev pub end_of : List ℕ → Failure → FolderReport
@@ -80,6 +81,7 @@ front_of fault.CutOutput = codes "tilt: 62 output too short: "
 front_of fault.Gap = codes "tilt: 63 feed starts too late: "
 front_of fault.ShortFeed = codes "tilt: 64 feed ends too early: "
 front_of fault.TooLong = codes "tilt: 65 feed too long: "
+front_of fault.ChangedFeed = codes "tilt: 68 feed has changed: "
 
 -- the line that reports the end for a folder of that name
 abbrev pub line_of_end : List ℕ → FolderReport → List ℕ

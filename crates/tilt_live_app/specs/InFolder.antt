@@ -3,6 +3,7 @@ use Rattle.std.specs.Prelude.{◌≡◌, ℕ, List, [], ◌++◌, codes, length,
 use Rattle.std.specs.Fmt.{decimal}
 use Rattle.tilt_exactly_once.specs.Committed.{Holds}
 use Rattle.tilt_exactly_once.specs.Feeding.{HasServedFeed, IsFailureCause, IsFailureFault}
+use Rattle.tilt_exactly_once.specs.Framed.{IsFramed, KeepsLast, frames, rejects_framed}
 use Rattle.tilt_exactly_once.specs.Opening.{IsCause, IsFault, IsPassing}
 use Rattle.tilt_exactly_once.specs.declared.failure.Failure.{Failure}
 use Rattle.tilt_exactly_once.specs.declared.failure.Failure.TheVariants.{Halted, Unstarted}
@@ -17,7 +18,6 @@ use Rattle.tilt_live_app.specs.FolderReport.{end_of, end_of_entering, line_of_en
 use Rattle.tilt_live_app.specs.declared.arguments.Task.TheVariants.{Position, Serve}
 use Rattle.tilt_live_folder.specs.Feeds.{Commits, EndsBadly, Fits, LiveFeed, Rejects, output_for}
 use Rattle.tilt_live_folder.specs.Machines.{IsRunning}
-use Rattle.tilt_live_folder.specs.Rows.{run_options}
 use Rattle.tilt_live_run.specs.Reported.{Reported}
 use Rattle.tilt_outside.specs.Counts.{added_count}
 use Rattle.tilt_outside.specs.Faults.{Rose}
@@ -97,10 +97,10 @@ module _ {K : Type 0} (tells : Type 0) (old new : Transcript) (err_tells : Type 
   -- The feed was served into the folder that was given, which is this one now. If it held the commit of bytes of the feed, then this is
   -- so of what was read, and of what each crash leaves. If nothing was read, that has its cause, and each crash leaves what was there
   pub record IsServedInto (plan : Plan) (given folder : F) (end : Result (Unit {0}) Failure) : Type 0 where
-    pub served : means.tells → (bytes : List ℕ) → Holds (Commits feed) bytes (means.seen given)
-        → HasServedFeed means.seen means.may_leave IsRunning output_for feed Commits EndsBadly Fits means.moment means.left_since tells
+    pub served : means.tells → (bytes : List ℕ) → Holds (IsFramed (Commits feed)) bytes (means.seen given)
+        → HasServedFeed means.seen means.may_leave (KeepsLast IsRunning) output_for feed (frames Commits) EndsBadly Fits means.moment means.left_since tells
         plan.from bytes given old folder new end
-    pub cause : means.tells → IfErr end (IsFailureCause (Rejects feed) (means.seen given))
+    pub cause : means.tells → IfErr end (IsFailureCause (rejects_framed (Rejects feed)) (means.seen given))
     pub kept : means.tells → IfErr end (λ failure. (error : StartError) → failure ≡ Unstarted error
         → LeavesOnly means.moment means.left_since given folder (OpensSame [] (means.seen given)))
     pub failed : IfErr end (λ failure. IsFailureFault failure → Rose (means.faults given) (means.faults folder))
@@ -118,15 +118,15 @@ module _ {K : Type 0} (tells : Type 0) (old new : Transcript) (err_tells : Type 
 
   -- so many bytes are committed, if the folder holds the commit of bytes of the feed; and each crash leaves it
   pub record IsCounted (count : ℕ) (given folder : F) : Type 0 where
-    pub count_is : means.tells → (bytes : List ℕ) → Holds (Commits feed) bytes (means.seen given) → count ≡ added_count 0 (length bytes)
-    pub any_moment : means.tells → (bytes : List ℕ) → Holds (Commits feed) bytes (means.seen given)
-        → LeavesOnly means.moment means.left_since given folder (Holds (Commits feed) bytes)
+    pub count_is : means.tells → (bytes : List ℕ) → Holds (IsFramed (Commits feed)) bytes (means.seen given) → count ≡ added_count 0 (length bytes)
+    pub any_moment : means.tells → (bytes : List ℕ) → Holds (IsFramed (Commits feed)) bytes (means.seen given)
+        → LeavesOnly means.moment means.left_since given folder (Holds (IsFramed (Commits feed)) bytes)
 
   -- why that isn't known
   pub record IsUncounted (error : StartError) (given folder : F) : Type 0 where
     pub kept : means.tells → LeavesOnly means.moment means.left_since given folder (OpensSame [] (means.seen given))
-    pub passing : means.tells → (bytes : List ℕ) → Holds (Commits feed) bytes (means.seen given) → IsPassing error
-    pub cause : means.tells → IsCause (Rejects feed) (means.seen given) error
+    pub passing : means.tells → (bytes : List ℕ) → Holds (IsFramed (Commits feed)) bytes (means.seen given) → IsPassing error
+    pub cause : means.tells → IsCause (rejects_framed (Rejects feed)) (means.seen given) error
     pub failed : IsFault error → Rose (means.faults given) (means.faults folder)
 
   -- the position was counted, and printed; or it can't be counted
@@ -141,7 +141,7 @@ module _ {K : Type 0} (tells : Type 0) (old new : Transcript) (err_tells : Type 
 pub record IsFeedOf (shelf : ShelfChange) (command : CommandValue) (begun : IsBegun shelf command) (feed : LiveFeed) : Type 0 where
   pub query : feed.query ≡ begun.query
   pub core : feed.accepted.core ≡ begun.core
-  pub options : run_options feed.options ≡ begun.options
+  pub options : feed.options ≡ begun.options
 
 -- The shelf and the port before and after, what a sink of reports says, and the command.
 module _ {K : Type 0} (shelf : ShelfChange) (tells : Type 0) (old new : Transcript) (err_tells : Type 0) (err_written : K → List ℕ) (err_faults : K → ℕ)

@@ -9,8 +9,9 @@ use Rattle.tilt_live_app.specs.declared.failure.Failure.TheVariants.{Halted, Unb
 use Rattle.tilt_live_run.specs.Left.{state_left}
 use Rattle.tilt_live_run.specs.declared.live_run.LiveRun.{LiveRun}
 use Rattle.tilt_live_run.specs.declared.run_options.RunOptions.{RunOptions}
-use Rattle.tilt_live_state.specs.Spelling.{spelled}
 use Rattle.tilt_live_state.specs.Valid.{IsStateOf}
+use Rattle.tilt_run_state.specs.Spelling.{opening as opened, spelled}
+use Rattle.tilt_run_state.specs.Valid.{FitsForm}
 use Rattle.tilt_syntax.specs.Tree.{StatementTree}
 
 -- a save failed
@@ -18,13 +19,14 @@ abbrev pub IsSaveFailure : Failure → Type 0
 IsSaveFailure (Unsaved name) = ⊤
 IsSaveFailure other = ⊥
 
--- The run of a query, and how many bytes of output were written.
-module _ (run : LiveRun) (query : List StatementTree) (written : ℕ) where
+-- The run of a query, what its states begin with, and how many bytes of output were written.
+module _ (run : LiveRun) (query : List StatementTree) (opening : List ℕ) (written : ℕ) where
   -- the text is that of the state of the run, whatever bytes it is after
   abbrev pub IsTextOfRun : List ℕ → Type 0
   IsTextOfRun text = (accepted : AcceptedParts) (options : RunOptions) (bytes : List ℕ) → IsRunAt run accepted options bytes
-      → (text ≡ spelled (state_left options accepted.core query (ended bytes) written))
-      × IsStateOf accepted.core (state_left options accepted.core query (ended bytes) written)
+      → opening ≡ opened options.form → (text ≡ spelled options.form (state_left options accepted.core query (ended bytes) written))
+      × IsStateOf accepted.core (state_left options accepted.core query (ended bytes) written).state
+      × FitsForm options.form (state_left options accepted.core query (ended bytes) written)
 
   -- its state was saved under the name; or the save failed, or there was no memory
   abbrev pub HasKept : ShelfChange → List ℕ → Result (Unit {0}) Failure → Type 0

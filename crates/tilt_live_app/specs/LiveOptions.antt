@@ -41,9 +41,7 @@ live_options =
 
 -- those that only a feed of rows has
 abbrev pub row_options : List (List ℕ)
-row_options =
-    codes "--lateness" ∷ codes "--idle" ∷ codes "--ahead" ∷ codes "--resume" ∷ codes "--save" ∷ codes "--folder" ∷ codes "--every"
-    ∷ codes "--from" ∷ codes "--position" ∷ []
+row_options = codes "--lateness" ∷ codes "--idle" ∷ codes "--ahead" ∷ []
 
 -- those that only a feed of readings has, in addition to the column of its times
 abbrev pub reading_options : List (List ℕ)

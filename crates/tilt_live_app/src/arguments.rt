@@ -7,12 +7,12 @@ ghost use Rattle.tilt_live_app.specs.Arguments.{CommandValue, IsLiveCommand, ask
 ghost use Rattle.tilt_live_app.specs.Arguments.{display_asked, number_or, task_asked};
 ghost use Rattle.tilt_live_app.specs.Readings.{reading_texts, text_at};
 
+use crate::asked::Asked;
 use crate::live_options::{options_fit, read_options};
 use crate::reading_texts::{read_readings, take_reading_texts};
 use std::alloc::Global;
 use tilt_cli::{Arguments, WordsFault, is_file};
 use tilt_exactly_once::Plan;
-use tilt_live_folder::RowOptions;
 use tilt_live_run::Display;
 use tilt_reading_options::{ReadingChoice, ReadingTexts};
 use tilt_row_text::{RowStyle, Times};
@@ -27,8 +27,8 @@ pub(crate) struct LiveCommand<'a> {
     pub(crate) plain: bool,
     // Whether times are written as dates.
     pub(crate) dated: bool,
-    // What is asked of the run, if its feed has rows. A feed of readings has no watermarks of its own.
-    pub(crate) asked: RowOptions,
+    // What is asked of the run. A feed of readings has no watermarks of its own.
+    pub(crate) asked: Asked,
     // How readings are written and what they mean, if its feed has readings.
     pub(crate) readings: Option<ReadingChoice>,
     // The file of the state that it goes on from, if it goes on from one.
@@ -170,11 +170,11 @@ fn display_asked(given: &Arguments) -> Display
     }
 }
 
-// What the options ask of a run whose feed has rows.
-fn asked_options(given: &Arguments) -> RowOptions
+// What the options ask of a run.
+fn asked_options(given: &Arguments) -> Asked
     ensures { result ≡ asked_options (arguments_of given.now).settings }
 {
-    RowOptions {
+    Asked {
         display: display_asked(given),
         strict: given.has("--strict"),
         watermarks: Options {

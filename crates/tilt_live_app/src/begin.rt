@@ -1,17 +1,17 @@
 // Where the run of a query begins.
-ghost use Rattle.std.specs.Prelude.{◌≡◌, IfOk, IfErr, true};
+ghost use Rattle.std.specs.Prelude.{◌≡◌, IfOk, IfErr};
 ghost use Rattle.tilt_live_app.specs.Resumed.{IsFitFor, StartsAt};
 ghost use Rattle.tilt_live_app.specs.Served.{Start};
 ghost use Rattle.tilt_live_app.specs.Serving.{IsRunAt};
 ghost use Rattle.tilt_live_run.specs.Adds.{Adds};
-ghost use Rattle.tilt_live_run.specs.Left.{KeepsState, is_rows};
+ghost use Rattle.tilt_live_run.specs.Left.{KeepsState};
 ghost use Rattle.tilt_live_run.specs.Runs.{IsSound};
 
 use std::alloc::Global;
 use tilt_compiler::Accepted;
 use tilt_live_run::{Keep, LiveRun, RunOptions, Stop};
-use tilt_live_state::LiveState;
 use tilt_port::Port;
+use tilt_run_state::RunState;
 
 // What a run of a query begins with.
 #[derive(Drop)]
@@ -21,7 +21,7 @@ pub(crate) struct Begin {
     // What is asked of the run.
     pub(crate) options: RunOptions,
     // The state that it goes on from, if there is one. Otherwise it begins with the first byte of a feed.
-    pub(crate) from: Option<LiveState>,
+    pub(crate) from: Option<RunState>,
     // What it keeps.
     pub(crate) keep: Keep,
 }
@@ -36,7 +36,7 @@ impl Begin {
             → IfOk result (λ run. IsRunAt run self.accepted self.options start.before) }
         ensures no_bad_line { IfErr result (λ stop. stop ≡ Stop.BadLine → ⊥) }
         ensures sound { IfOk result IsSound }
-        ensures keeps { self.keep ≡ Keep.State → is_rows self.options.form ≡ true → IfOk result KeepsState }
+        ensures keeps { self.keep ≡ Keep.State → IfOk result KeepsState }
     {
         let Begin {
             accepted,

@@ -1,7 +1,7 @@
 // The program's one call.
 ghost use Rattle.std.specs.Prelude.{◌≡◌, ◌≤◌, ◌↔◌, ℕ, List, None, Some, IfErr, option_map, string_bytes};
 ghost use Rattle.tilt_cli.specs.Command.{texts};
-ghost use Rattle.tilt_live_app.specs.Arguments.{AreOfRows, CommandValue, IsLiveCommand, command_value};
+ghost use Rattle.tilt_live_app.specs.Arguments.{CommandValue, IsLiveCommand, command_value};
 ghost use Rattle.tilt_live_app.specs.Change.{shelf_change};
 ghost use Rattle.tilt_live_app.specs.Keeping.{IsSaveFailure};
 ghost use Rattle.tilt_live_app.specs.Done.{HasDone, HasRun, IsSaving};
@@ -29,8 +29,7 @@ use tilt_store::{Folder, Folders};
 /// number of ticks, are the options of its watermarks. The feed is read from the port until its end, line by line; what each line makes
 /// final is written before more is read.
 ///
-/// With `--time COL` the feed is one of readings, and the options from `--name` on say how they are written and what they mean. Then no
-/// state is saved or gone on from, and there is no folder.
+/// With `--time COL` the feed is one of readings, and the options from `--name` on say how they are written and what they mean.
 ///
 /// With `--save FILE` the state of the run is saved once the feed has ended by itself and all output was handed on. With `--resume FILE` a
 /// run goes on from such a state. It writes only what is final after it, and its feed goes on with the byte after the last LF that the
@@ -99,7 +98,6 @@ fn obey<S: Shelf, P: Port, E: Sink>(
     requires lent { S.lends (command_value command.now).query }
     requires state_lent { (file : List ℕ) → (command_value command.now).resume ≡ Some file → S.lends file }
     requires saves { (file : List ℕ) (n : ℕ) → (command_value command.now).save ≡ Some file → S.takes shelf.old file n }
-    requires of_rows { AreOfRows (command_value command.now) }
     requires lines { (n : ℕ) → E.takes err.old n }
     ensures is { HasDone (shelf_change S.tells S.files S.read_faults S.save_faults shelf.old shelf.new) P.tells
         (P.transcript port.old) (P.transcript port.new) E.tells E.written E.faults (command_value command.now) err.old err.new result }
@@ -132,7 +130,6 @@ fn run<'a, S: Shelf, P: Port, E: Sink>(
     requires lent { S.lends (command_value command.now).query }
     requires state_lent { (file : List ℕ) → (command_value command.now).resume ≡ Some file → S.lends file }
     requires saves { (file : List ℕ) (n : ℕ) → (command_value command.now).save ≡ Some file → S.takes shelf.old file n }
-    requires of_rows { AreOfRows (command_value command.now) }
     requires lines { (n : ℕ) → E.takes err.old n }
     ensures is { HasRun (shelf_change S.tells S.files S.read_faults S.save_faults shelf.old shelf.new) P.tells
         (P.transcript port.old) (P.transcript port.new) E.tells E.written E.faults (command_value command.now) err.old err.new result }

@@ -1,11 +1,11 @@
 // A feed that was served to its end, and what is kept of its run.
-ghost use Rattle.std.specs.Prelude.{◌≡◌, ◌≤◌, ◌-◌, ◌↔◌, ℕ, List, Ok, Err, length, IfOk, IfErr, MatchResult, true};
+ghost use Rattle.std.specs.Prelude.{◌≡◌, ◌≤◌, ◌-◌, ◌↔◌, ℕ, List, Ok, Err, length, IfOk, IfErr, MatchResult};
 ghost use Rattle.tilt_live_app.specs.Change.{shelf_change};
 ghost use Rattle.tilt_live_app.specs.Keeping.{HasKept, IsSaveFailure, IsTextOfRun};
 ghost use Rattle.tilt_live_app.specs.Resumed.{IsFitFor, StartsAt, written_before};
 ghost use Rattle.tilt_live_app.specs.Served.{HasEnded, HasServed, Start};
 ghost use Rattle.tilt_live_app.specs.Serving.{IsRunAt};
-ghost use Rattle.tilt_live_run.specs.Left.{KeepsState, is_rows};
+ghost use Rattle.tilt_live_run.specs.Left.{KeepsState};
 ghost use Rattle.tilt_live_run.specs.Runs.{IsSound};
 ghost use Rattle.tilt_outside.specs.Counts.{added_count};
 ghost use Rattle.tilt_outside.specs.Reads.{OnlyReads};
@@ -16,9 +16,9 @@ use crate::job::Job;
 use crate::serve::serve;
 use std::alloc::{AllocError as OutOfMemory, Global};
 use tilt_live_run::{Keep, LiveRun};
-use tilt_live_state::{LiveState, encode};
 use tilt_outside::{Shelf, Sink};
 use tilt_port::Port;
+use tilt_run_state::{RunState, put_state};
 use tilt_syntax::Query;
 
 // The run of a query whose feed has ended, and how many bytes of output were written for the feed.
@@ -26,6 +26,8 @@ use tilt_syntax::Query;
 pub(crate) struct EndedRun {
     run: LiveRun,
     query: Query,
+    // What its state begins with.
+    opening: Vec<u8>,
     written: u64,
 }
 
@@ -49,16 +51,18 @@ impl EndedRun {
         ensures handed_on { MatchResult result (λ _. (P.transcript port.new).held_back ≡ 0)
             (λ why. why ≡ Halt.BadLine → (P.transcript port.new).held_back ≡ 0) }
         ensures query { IfOk result (λ served. served.query ≡ job.query) }
+        ensures opening { IfOk result (λ served. served.opening ≡ job.opening) }
         ensures written { P.tells → IfOk result (λ served. served.written ≡ added_count (written_before job.from)
             (added_count 0 (length (P.transcript port.new).written) - added_count 0 (length (P.transcript port.old).written))) }
         ensures sound { IfOk result (λ served. IsSound served.run) }
-        ensures keeps { keep ≡ Keep.State → is_rows job.options.form ≡ true → IfOk result (λ served. KeepsState served.run) }
+        ensures keeps { keep ≡ Keep.State → IfOk result (λ served. KeepsState served.run) }
         ensures takes { (n : ℕ) → E.takes err.new n }
     {
         let Job {
             query,
             accepted,
             options,
+            opening,
             from,
         } = job;
         let before = written_before(&from);
@@ -74,6 +78,7 @@ impl EndedRun {
         Ok(EndedRun {
             run,
             query,
+            opening,
             written: before.saturating_add(more),
         })
     }
@@ -88,7 +93,7 @@ impl EndedRun {
         requires sound { IsSound self.run }
         requires keeps { KeepsState self.run }
         requires room { (n : ℕ) → S.takes shelf.old name.now n }
-        ensures kept { HasKept self.run self.query self.written
+        ensures kept { HasKept self.run self.query self.opening.items self.written
             (shelf_change S.tells S.files S.read_faults S.save_faults shelf.old shelf.new) name.now result }
         ensures rest { IfErr result (λ failure. (IsSaveFailure failure → ⊥) → shelf.new ≡ shelf.old) }
         ensures counts { (S.read_faults shelf.new ≡ S.read_faults shelf.old) × (S.save_faults shelf.old ≤ S.save_faults shelf.new) }
@@ -107,26 +112,27 @@ impl EndedRun {
     fn text(self, alloc: Global) -> Result<Vec<u8>, OutOfMemory>
         requires sound { IsSound self.run }
         requires keeps { KeepsState self.run }
-        ensures { IfOk result (λ text. IsTextOfRun self.run self.query self.written text.items) }
+        ensures { IfOk result (λ text. IsTextOfRun self.run self.query self.opening.items self.written text.items) }
     {
         let EndedRun {
             mut run,
             query,
+            opening,
             written,
         } = self;
         let state = run.state(alloc, query, written)?;
-        let mut text = Vec::new(alloc);
-        encode(alloc, &state, &mut text)?;
+        let mut text = opening;
+        put_state(alloc, &state, &mut text)?;
         Ok(text)
     }
 }
 
 // How many bytes of output were written before the run goes on.
-fn written_before(from: &Option<LiveState>) -> u64
+fn written_before(from: &Option<RunState>) -> u64
     ensures { result ≡ written_before from.now }
 {
     match from {
         None => 0,
-        Some(state) => state.progress.written,
+        Some(state) => state.state.progress.written,
     }
 }

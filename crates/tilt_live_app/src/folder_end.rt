@@ -24,6 +24,8 @@ pub(crate) enum FolderFault {
     Gap,
     // It ended before them.
     ShortFeed,
+    // The last of them aren't those of the feed.
+    ChangedFeed,
     // A state can't count so long a feed or output.
     TooLong,
 }
@@ -107,6 +109,7 @@ fn end_of_halt(name: &str, halt: Halt) -> FolderEnd<'_>
         Halt::Failed => FolderEnd::Shared(Fault::SaveFault(name)),
         Halt::Gap => FolderEnd::Own(FolderFault::Gap),
         Halt::Short => FolderEnd::Own(FolderFault::ShortFeed),
+        Halt::Changed => FolderEnd::Own(FolderFault::ChangedFeed),
     }
 }
 

@@ -26,5 +26,6 @@ fn front_of(fault: FolderFault) -> &'static [u8]
         FolderFault::Gap => b"tilt: 63 feed starts too late: ",
         FolderFault::ShortFeed => b"tilt: 64 feed ends too early: ",
         FolderFault::TooLong => b"tilt: 65 feed too long: ",
+        FolderFault::ChangedFeed => b"tilt: 68 feed has changed: ",
     }
 }

@@ -1,6 +1,6 @@
 // A command whose feed is served into a folder.
 ghost use Rattle.std.specs.Prelude.{◌≡◌, ℕ, List, None, Some, IfOk};
-ghost use Rattle.tilt_live_app.specs.Arguments.{AreOfRows, choice_value, command_value};
+ghost use Rattle.tilt_live_app.specs.Arguments.{choice_value, command_value};
 ghost use Rattle.tilt_live_app.specs.Change.{shelf_change};
 ghost use Rattle.tilt_live_app.specs.InFolder.{HasCounted, HasDoneIn, HasPrinted, HasServedIn, IsPrinted, folder_meaning};
 ghost use Rattle.tilt_live_app.specs.InFolder.{folders_change, line_of_served, position_text, status_of_served};
@@ -40,7 +40,6 @@ pub(crate) fn obey_in<S: Shelf, F: Folder, D: Folders<F>, P: Port, E: Sink>(
 ) -> Lived<F>
     requires lent { S.lends (command_value command.now).query }
     requires state_lent { (file : List ℕ) → (command_value command.now).resume ≡ Some file → S.lends file }
-    requires of_rows { AreOfRows (command_value command.now) }
     requires chosen { (command_value command.now).folder ≡ Some (choice_value choice.now) }
     requires lines { (n : ℕ) → E.takes err.old n }
     ensures is { HasDoneIn (shelf_change S.tells S.files S.read_faults S.save_faults shelf.old shelf.new) P.tells
@@ -58,7 +57,7 @@ pub(crate) fn obey_in<S: Shelf, F: Folder, D: Folders<F>, P: Port, E: Sink>(
         Ok(folder) => folder,
         Err(error) => return without_folder(report_end(err, name, &end_of_entering(name, error))),
     };
-    let recipe = LiveRecipe::new(job.query, job.accepted, command.asked);
+    let recipe = LiveRecipe::new(job.query, job.accepted, job.options);
     match choice.task {
         Task::Position => print_position(alloc, folder, recipe, name, port, err),
         Task::Serve(plan) => serve_in(alloc, folder, recipe, plan, name, port, err),

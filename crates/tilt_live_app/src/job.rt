@@ -1,9 +1,8 @@
 // What a command reads before its feed: the query with the options of its run, and the state that the run goes on from.
 ghost use Rattle.std.specs.Prelude.{◌≡◌, ℕ, List, Some, IfOk, IfErr, option_map, string_bytes};
 ghost use Rattle.tilt_checkpoint.specs.Valid.{IsAccepted};
-ghost use Rattle.tilt_feed_form.specs.declared.feed_form.FeedForm.TheVariants.{Rows};
-ghost use Rattle.tilt_live_app.specs.Arguments.{AreOfRows, command_value};
-ghost use Rattle.tilt_live_app.specs.Asked.{IsAsked};
+ghost use Rattle.tilt_live_app.specs.Arguments.{command_value};
+ghost use Rattle.tilt_live_app.specs.Asked.{IsScaled, form_asked, options_asked};
 ghost use Rattle.tilt_live_app.specs.BeginReport.{begin_report};
 ghost use Rattle.tilt_live_app.specs.Begun.{HasTaken, IsUnbegun};
 ghost use Rattle.tilt_live_app.specs.Change.{shelf_change};
@@ -11,7 +10,8 @@ ghost use Rattle.tilt_live_app.specs.Resumed.{GoesOnFrom, IsFitFor};
 ghost use Rattle.tilt_live_app.specs.StateFile.{RefusesState};
 ghost use Rattle.tilt_load.specs.Load.{IsLoadFault};
 ghost use Rattle.tilt_outside.specs.Reads.{OnlyReads};
-ghost use Rattle.tilt_report.specs.Report.{report_of};
+ghost use Rattle.tilt_report.specs.Report.{out_of_memory, report_of};
+ghost use Rattle.tilt_run_state.specs.Spelling.{opening};
 ghost use Rattle.tilt_types.specs.Checked.{core_of};
 
 use crate::arguments::LiveCommand;
@@ -20,13 +20,13 @@ use crate::state_file::load_state;
 use crate::unbegun::Unbegun;
 use std::alloc::Global;
 use tilt_compiler::Accepted;
+use tilt_feed_form::FeedForm;
 use tilt_live_run::RunOptions;
-use tilt_live_state::LiveState;
 use tilt_load::load_query;
 use tilt_outside::Shelf;
 use tilt_report::Fault;
+use tilt_run_state::{RunState, put_opening};
 use tilt_syntax::Query;
-use tilt_watermarks::Options;
 
 // A query, what the compiler knows of it, the options of its run, and the state that the run goes on from, if there is one.
 #[derive(Drop)]
@@ -34,7 +34,9 @@ pub(crate) struct Job {
     pub(crate) query: Query,
     pub(crate) accepted: Accepted,
     pub(crate) options: RunOptions,
-    pub(crate) from: Option<LiveState>,
+    // What the states of the run begin with.
+    pub(crate) opening: Vec<u8>,
+    pub(crate) from: Option<RunState>,
 }
 
 // What a command reads before its feed. The errors are those of the file of its query, of the scales of its inputs, and of the file of its
@@ -44,12 +46,13 @@ pub(crate) fn load_job<'a, S: Shelf>(
     shelf: &mut S,
     command: &'a LiveCommand<'_>,
 ) -> Result<Job, Unbegun<'a>>
-    requires of_rows { AreOfRows (command_value command.now) }
     requires lent { S.lends (command_value command.now).query }
     requires state_lent { (file : List ℕ) → (command_value command.now).resume ≡ Some file → S.lends file }
     ensures taken { IfOk result (λ job. HasTaken S.tells (S.files shelf.old command.now.query.now) job.query job.accepted.core) }
-    ensures asked { IfOk result (λ job. IsAsked (command_value command.now) job.accepted.core.inputs job.options) }
-    ensures goes_on { IfOk result (λ job. GoesOnFrom S.tells (S.files shelf.old) job.query command.now.asked.watermarks
+    ensures scaled { IfOk result (λ job. IsScaled (command_value command.now).readings job.accepted.core.inputs) }
+    ensures asked { IfOk result (λ job. job.options ≡ options_asked (command_value command.now) job.accepted.core.inputs) }
+    ensures opening { IfOk result (λ job. job.opening.items ≡ opening job.options.form) }
+    ensures goes_on { IfOk result (λ job. GoesOnFrom S.tells (S.files shelf.old) job.query job.options.form
         (command_value command.now).resume job.from) }
     ensures accepted { IfOk result (λ job. IsAccepted job.query × (job.accepted.core ≡ core_of job.query)) }
     ensures fit { IfOk result (λ job. IsFitFor job.accepted.core job.options.form job.from) }
@@ -60,19 +63,27 @@ pub(crate) fn load_job<'a, S: Shelf>(
     let loaded = load_query(alloc, shelf, command.query, !command.plain)?;
     let inputs = loaded.accepted.core().inputs();
     let options = run_options(alloc, command, inputs)?;
-    let from = load_from(
-        alloc,
-        shelf,
-        &command.resume,
-        &loaded.query,
-        command.asked.watermarks,
-    )?;
+    let opening = open_state(alloc, &options.form)?;
+    let from = load_from(alloc, shelf, &command.resume, &loaded.query, &options.form)?;
     Ok(Job {
         query: loaded.query,
         accepted: loaded.accepted,
         options,
+        opening,
         from,
     })
+}
+
+// What the state of a run over a feed in this form begins with.
+fn open_state<'a>(alloc: Global, form: &FeedForm) -> Result<Vec<u8>, Fault<'a>>
+    ensures opening { IfOk result (λ front. front.items ≡ opening form.now) }
+    ensures fault { IfErr result (λ fault. report_of fault ≡ out_of_memory) }
+{
+    let mut front = Vec::new(alloc);
+    match put_opening(&mut front, form) {
+        Ok(()) => Ok(front),
+        Err(_) => Err(Fault::OutOfMemory),
+    }
 }
 
 // The state that a run of the query goes on from, if there is a file of it.
@@ -81,21 +92,21 @@ fn load_from<'a, S: Shelf>(
     shelf: &mut S,
     file: &'a Option<String>,
     query: &Query,
-    options: Options,
-) -> Result<Option<LiveState>, Fault<'a>>
+    form: &FeedForm,
+) -> Result<Option<RunState>, Fault<'a>>
     requires { (name : List ℕ) → option_map (λ text. string_bytes text) file.now ≡ Some name → S.lends name }
-    ensures goes_on { IfOk result (λ from. GoesOnFrom S.tells (S.files shelf.old) query.now options
+    ensures goes_on { IfOk result (λ from. GoesOnFrom S.tells (S.files shelf.old) query.now form.now
         (option_map (λ text. string_bytes text) file.now) from) }
-    ensures fit { IfOk result (λ from. IsFitFor (core_of query.now) (Rows options) from) }
+    ensures fit { IfOk result (λ from. IsFitFor (core_of query.now) form.now from) }
     ensures fault { IfErr result (λ fault. (name : List ℕ) × (option_map (λ text. string_bytes text) file.now ≡ Some name)
-        × IsLoadFault S.tells (RefusesState query.now options name (S.files shelf.old name)) (λ which. which ≡ name)
+        × IsLoadFault S.tells (RefusesState query.now form.now name (S.files shelf.old name)) (λ which. which ≡ name)
         (S.read_faults shelf.old) (S.read_faults shelf.new) (report_of fault)) }
     ensures rest { OnlyReads S.files S.read_faults S.save_faults S.takes shelf.old shelf.new }
 {
     match file {
         None => Ok(None),
         Some(name) => {
-            let state = load_state(alloc, shelf, name.as_str(), query, options)?;
+            let state = load_state(alloc, shelf, name.as_str(), query, form)?;
             Ok(Some(state))
         }
     }

@@ -10,6 +10,7 @@
 #![tactic(auto)]
 
 mod arguments;
+mod asked;
 mod begin;
 mod command;
 mod ended_run;

@@ -160,17 +160,7 @@ const LIVE_OPTIONS: [OptionRow; 29] = [
 ];
 
 // The options that only a feed of rows has.
-const ROW_OPTIONS: [&str; 9] = [
-    "--lateness",
-    "--idle",
-    "--ahead",
-    "--resume",
-    "--save",
-    "--folder",
-    "--every",
-    "--from",
-    "--position",
-];
+const ROW_OPTIONS: [&str; 3] = ["--lateness", "--idle", "--ahead"];
 
 // The options that only a feed of readings has, in addition to the column of its times.
 const READING_OPTIONS: [&str; 15] = [

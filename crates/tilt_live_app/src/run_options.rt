@@ -1,8 +1,9 @@
 // The options of the run that a command asks for.
-ghost use Rattle.std.specs.Prelude.{◌≡◌, ◌<◌, ◌^◌, ℕ, List, Some, IfErr, IfOk, length};
+ghost use Rattle.std.specs.Prelude.{◌≡◌, ◌<◌, ◌^◌, ℕ, List, None, Some, IfErr, IfOk, length};
 ghost use Rattle.tilt_live_app.specs.Arguments.{command_value};
-ghost use Rattle.tilt_live_app.specs.Asked.{IsAsked, IsChosen, IsUnchosen, display_for};
+ghost use Rattle.tilt_live_app.specs.Asked.{IsScaled, IsUnchosen, display_for, options_asked, setup_for};
 ghost use Rattle.tilt_live_app.specs.BeginReport.{begin_report};
+ghost use Rattle.tilt_reading_options.specs.Form.{missing_input};
 ghost use Rattle.tilt_reading_options.specs.Values.{ChoiceValue};
 
 use crate::arguments::LiveCommand;
@@ -22,12 +23,19 @@ pub(crate) fn run_options<'a>(
     inputs: &[Name],
 ) -> Result<RunOptions, Unbegun<'a>>
     requires { length inputs.now < 2 ^ 32 }
-    ensures asked { IfOk result (λ options. IsAsked (command_value command.now) inputs.now options) }
+    ensures scaled { IfOk result (λ _. IsScaled (command_value command.now).readings inputs.now) }
+    ensures asked { IfOk result (λ options. options ≡ options_asked (command_value command.now) inputs.now) }
     ensures fault { IfErr result (λ why. (choice : ChoiceValue) × ((command_value command.now).readings ≡ Some choice)
         × IsUnchosen choice inputs.now (begin_report why)) }
 {
     let Some(choice) = &command.readings else {
-        return Ok(command.asked.for_run());
+        return Ok(RunOptions {
+            display: command.asked.display,
+            strict: command.asked.strict,
+            form: FeedForm::Rows {
+                options: command.asked.watermarks,
+            },
+        });
     };
     let setup = make_setup(alloc, choice, inputs)?;
     Ok(RunOptions {
@@ -62,7 +70,8 @@ fn make_setup<'a>(
     inputs: &[Name],
 ) -> Result<ReadingSetup, Unbegun<'a>>
     requires { length inputs.now < 2 ^ 32 }
-    ensures chosen { IfOk result (λ setup. IsChosen choice.now inputs.now setup) }
+    ensures setup { IfOk result (λ setup. setup ≡ setup_for choice.now inputs.now) }
+    ensures scaled { IfOk result (λ _. missing_input choice.now inputs.now ≡ None) }
     ensures fault { IfErr result (λ why. IsUnchosen choice.now inputs.now (begin_report why)) }
 {
     match choice.form(alloc, inputs) {

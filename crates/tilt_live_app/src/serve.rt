@@ -1,10 +1,10 @@
 // The feed of a query, served from where its run starts to its last byte.
-ghost use Rattle.std.specs.Prelude.{◌≡◌, ◌<◌, ℕ, Ok, Err, length, IfOk, MatchResult, true};
+ghost use Rattle.std.specs.Prelude.{◌≡◌, ◌<◌, ℕ, Ok, Err, length, IfOk, MatchResult};
 ghost use Rattle.tilt_compiler.specs.Accepted.{AcceptedParts};
 ghost use Rattle.tilt_live_app.specs.Resumed.{IsFitFor, StartsAt};
 ghost use Rattle.tilt_live_app.specs.Served.{HasEnded, HasServed, Start, end_with};
 ghost use Rattle.tilt_live_app.specs.Serving.{GoesOn, HasStepped, IsRunAt, WasServed};
-ghost use Rattle.tilt_live_run.specs.Left.{KeepsState, is_rows};
+ghost use Rattle.tilt_live_run.specs.Left.{KeepsState};
 ghost use Rattle.tilt_live_run.specs.Runs.{IsSound};
 ghost use Rattle.tilt_live_run.specs.declared.run_options.RunOptions.{RunOptions};
 ghost use Rattle.tilt_port.specs.Transcript.{Moment, Transcript};
@@ -44,7 +44,7 @@ pub(crate) fn serve<P: Port, E: Sink>(
     ensures handed_on { MatchResult result (λ _. (P.transcript port.new).held_back ≡ 0)
         (λ why. why ≡ Halt.BadLine → (P.transcript port.new).held_back ≡ 0) }
     ensures sound { IfOk result IsSound }
-    ensures keeps { begin.keep ≡ Keep.State → is_rows begin.options.form ≡ true → IfOk result KeepsState }
+    ensures keeps { begin.keep ≡ Keep.State → IfOk result KeepsState }
     ensures takes { (n : ℕ) → E.takes err.new n }
 {
     let mut run = begin.run(alloc, port)?;

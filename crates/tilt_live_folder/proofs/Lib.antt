@@ -1,5 +1,4 @@
 mod Commits
-mod Ranges
 mod Running
 mod Tails
 mod Taking

@@ -4,22 +4,30 @@ use Rattle.tilt_checkpoint.specs.Valid.{IsAccepted}
 use Rattle.tilt_core.specs.Core.{CoreParts}
 use Rattle.tilt_feed_text.proofs.Splitting.{unfinished-append}
 use Rattle.tilt_feed_text.specs.Split.{unfinished, unfinished_after}
-use Rattle.tilt_live_state.specs.State.{LiveStateParts}
-use Rattle.tilt_live_state.specs.Valid.{IsState, IsStateOf}
+use Rattle.tilt_feed_form.specs.declared.feed_form.FeedForm.{FeedForm}
+use Rattle.tilt_live_state.specs.Valid.{IsStateOf}
 use Rattle.tilt_outside.specs.Counts.{added_count}
+use Rattle.tilt_run_state.specs.State.{RunStateParts}
+use Rattle.tilt_run_state.specs.Valid.{FitsForm, HasOptions, IsRunState}
 use Rattle.tilt_types.specs.Checked.{core_of}
 
--- a state of the core of an accepted query is valid
-whole_state : (core : CoreParts) (left s : LiveStateParts) → IsAccepted left.query → core_of left.query ≡ core → s ≡ left → IsStateOf core s → IsState s
-whole_state core left s accepted same is valid = record {
-  query = subst (λ (x : LiveStateParts). IsAccepted x.query) (sym is) accepted;
-  run = subst (λ (k : CoreParts). IsStateOf k s) (sym (ap (λ (x : LiveStateParts). core_of x.query) is ∙ same)) valid;
+-- a state of the core of an accepted query that fits the form of its feed is valid
+whole_state : (core : CoreParts) (form : FeedForm) (left s : RunStateParts) → IsAccepted left.state.query → core_of left.state.query ≡ core → HasOptions form left
+    → s ≡ left → IsStateOf core s.state → FitsForm form s → IsRunState form s
+whole_state core form left s accepted same has is valid fits = record {
+  state = record {
+    query = subst (λ (x : RunStateParts). IsAccepted x.state.query) (sym is) accepted;
+    run = subst (λ (k : CoreParts). IsStateOf k s.state) (sym (ap (λ (x : RunStateParts). core_of x.state.query) is ∙ same)) valid;
+  };
+  kept = fits;
+  options = subst (HasOptions form) (sym is) has;
 }
 
-pub state-valid : {E : Type 0} (core : CoreParts) (left : LiveStateParts) (result : Result LiveStateParts E) → IsAccepted left.query → core_of left.query ≡ core
-    → IfOk result (λ s. s ≡ left) → IfOk result (λ s. IsStateOf core s) → IfOk result IsState
-state-valid core left (Ok s) accepted same is valid = whole_state core left s accepted same is valid
-state-valid core left (Err e) accepted same is valid = tt
+pub state-valid : {E : Type 0} (core : CoreParts) (form : FeedForm) (left : RunStateParts) (result : Result RunStateParts E) → IsAccepted left.state.query
+    → core_of left.state.query ≡ core → HasOptions form left → IfOk result (λ s. s ≡ left) → IfOk result (λ s. IsStateOf core s.state) → IfOk result (FitsForm form)
+    → IfOk result (IsRunState form)
+state-valid core form left (Ok s) accepted same has is valid fits = whole_state core form left s accepted same has is valid fits
+state-valid core form left (Err e) accepted same has is valid fits = tt
 
 -- the bytes after the last LF of a piece and what was before it
 pub tail-more : (bytes piece old new : List ℕ) → old ≡ unfinished bytes → new ≡ unfinished_after old piece → new ≡ unfinished (bytes ++ piece)

@@ -9,8 +9,12 @@ use Rattle.tilt_feed_form.specs.Said.{stop_among}
 use Rattle.tilt_feed_text.specs.Split.{ended, unfinished, unfinished_after}
 use Rattle.tilt_live_run.specs.Runs.{is_stopped, number_of, state_after}
 use Rattle.tilt_live_run.specs.declared.run_options.RunOptions.{RunOptions}
-use Rattle.tilt_live_state.specs.Spelling.{input_lines, progress_lines, run_lines, spelled}
+use Rattle.tilt_feed_form.specs.declared.feed_form.FeedForm.{FeedForm}
+use Rattle.tilt_live_state.specs.Spelling.{input_lines, progress_lines, run_lines}
+use Rattle.tilt_live_state.specs.Spelling as live
 use Rattle.tilt_live_state.specs.State.{LiveStateParts}
+use Rattle.tilt_run_state.specs.Spelling.{kept_lines, opening, spelled}
+use Rattle.tilt_run_state.specs.State.{RunStateParts}
 
 -- those bytes have no LF
 pub tail-only : (bytes : List ℕ) → unfinished (unfinished bytes) ≡ unfinished bytes
@@ -27,12 +31,17 @@ ends_later : (x y : List ℕ) → EndsLine y → EndsLine (x ++ y)
 ends_later x y ends = λ front. unfinished-append front x y ∙ ends (unfinished_after front x)
 
 -- a state ends with one
-spelled_ends : (s : LiveStateParts) → EndsLine (spelled s)
-spelled_ends s =
+live_ends : (s : LiveStateParts) → EndsLine (live.spelled s)
+live_ends s =
     let inputs = ends_later (flat_map input_lines s.inputs) (codes "end\n") (λ front. refl) in
     let run = ends_later (progress_lines s.progress) (flat_map input_lines s.inputs ++ codes "end\n") inputs in
     ends_later (codes "tilt live 1\n") (query_lines s.query ++ run_lines s.progress s.inputs)
     (ends_later (query_lines s.query) (run_lines s.progress s.inputs) run)
+
+spelled_ends : (form : FeedForm) (s : RunStateParts) → EndsLine (spelled form s)
+spelled_ends form s =
+    ends_later (opening form) (kept_lines s.kept ++ live.spelled s.state)
+    (ends_later (kept_lines s.kept) (live.spelled s.state) (live_ends s.state))
 
 -- a text that ends with an LF, and bytes without one
 pub record AreParts (text rest whole : List ℕ) : Type 0 where
@@ -49,8 +58,8 @@ are_parts text tail ends only =
     record { lines = rw count (take_at text tail (length text) refl); tail = is }
 
 -- a state, and behind it the bytes of a line that has begun
-pub state-parts : (s : LiveStateParts) (bytes : List ℕ) → AreParts (spelled s) (unfinished bytes) (spelled s ++ unfinished bytes)
-state-parts s bytes = are_parts (spelled s) (unfinished bytes) (spelled_ends s) (tail-only bytes)
+pub state-parts : (form : FeedForm) (s : RunStateParts) (bytes : List ℕ) → AreParts (spelled form s) (unfinished bytes) (spelled form s ++ unfinished bytes)
+state-parts form s bytes = are_parts (spelled form s) (unfinished bytes) (spelled_ends form s) (tail-only bytes)
 
 -- a line stops the run exactly if it does among the lines alone
 pub stopped-ended : (options : RunOptions) (core : CoreParts) (bytes : List ℕ) → is_stopped options core [] (ended bytes) ≡ is_stopped options core [] bytes

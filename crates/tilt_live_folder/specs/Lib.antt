@@ -3,5 +3,3 @@ pub mod Committed
 pub mod Feeds
 pub mod Laws
 pub mod Machines
-pub mod Range
-pub mod Rows

@@ -1,6 +1,6 @@
 //! A live query that is served into a folder, exactly once.
 //!
-//! What comes in is a query with its core, and the options of its run on rows. What goes out is a machine for `tilt_exactly_once`: the run
+//! What comes in is a query with its core, and the options of its run. What goes out is a machine for `tilt_exactly_once`: the run
 //! of `tilt_live_run` with its state. `specs/Committed` says which commits are those of bytes of the query's feed. They have the output
 //! for the lines of these bytes, and the state after these lines. Behind the state are the bytes of the line that has begun.
 #![tactic(auto)]
@@ -8,13 +8,10 @@
 mod buffer;
 mod machine;
 mod query;
-mod range;
 mod recipe;
 mod resuming;
-mod row_options;
 mod tail;
 mod unheard;
 
 pub use machine::LiveMachine;
 pub use recipe::LiveRecipe;
-pub use row_options::RowOptions;

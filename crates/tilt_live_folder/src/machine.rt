@@ -4,23 +4,23 @@ ghost use Rattle.tilt_feed_text.specs.Split.{ended, unfinished};
 ghost use Rattle.tilt_live_folder.specs.Feeds.{Commits, EndsBadly, Fits, LiveFeed, Rejects, output_for};
 ghost use Rattle.tilt_live_folder.specs.Laws.{has_output, has_state};
 ghost use Rattle.tilt_live_folder.specs.Machines.{CanRun, IsRunning};
-ghost use Rattle.tilt_live_folder.specs.Rows.{run_options};
 ghost use Rattle.tilt_live_run.specs.Left.{state_left};
-ghost use Rattle.tilt_live_state.specs.Spelling.{spelled};
-ghost use Rattle.tilt_live_state.specs.Valid.{IsState};
+ghost use Rattle.tilt_run_state.specs.Spelling.{kept_lines, opening};
+ghost use Rattle.tilt_live_state.specs.Spelling as live;
+ghost use Rattle.tilt_run_state.specs.Valid.{IsRunState};
 
 use crate::buffer::Buffer;
 use crate::query::copy;
-use crate::range::is_in_range;
 use crate::recipe::LiveRecipe;
 use crate::resuming::resume_lines;
 use crate::tail::{grow, split_lines};
 use crate::unheard::Unheard;
 use std::alloc::{AllocError as OutOfMemory, Global};
 use tilt_exactly_once::{Machine, Refusal, Resumed, Started, Stop};
+use tilt_feed_form::FeedForm;
 use tilt_live_run::{Keep, LiveRun};
-use tilt_live_state::{LiveState, encode};
 use tilt_outside::Sink;
+use tilt_run_state::{RunState, is_in_range, put_opening, put_state};
 use tilt_syntax::Query;
 
 /// The run of a query that keeps what its state needs.
@@ -28,6 +28,8 @@ use tilt_syntax::Query;
 pub struct LiveMachine {
     pub(crate) run: LiveRun,
     pub(crate) query: Query,
+    // What its states begin with.
+    pub(crate) opening: Vec<u8>,
     // The bytes of the line whose LF hasn't come yet.
     pub(crate) tail: Vec<u8>,
     // How many bytes it has taken, as far as the count goes.
@@ -36,13 +38,14 @@ pub struct LiveMachine {
 
 impl LiveMachine {
     // Its state, if this many bytes of output were written.
-    fn make_state(&mut self, alloc: Global, written: u64) -> Result<LiveState, OutOfMemory>
+    fn make_state(&mut self, alloc: Global, written: u64) -> Result<RunState, OutOfMemory>
         requires { CanRun self.old }
         ensures is { (feed : LiveFeed) (bytes : List ℕ) → IsRunning self.old feed bytes
-            → IfOk result (λ state. state ≡ state_left (run_options feed.options) feed.accepted.core feed.query (ended bytes) written) }
-        ensures valid { (feed : LiveFeed) (bytes : List ℕ) → IsRunning self.old feed bytes → IfOk result IsState }
+            → IfOk result (λ state. state ≡ state_left feed.options feed.accepted.core feed.query (ended bytes) written) }
+        ensures valid { (feed : LiveFeed) (bytes : List ℕ) → IsRunning self.old feed bytes → IfOk result (IsRunState feed.options.form) }
         ensures goes_on { (feed : LiveFeed) (bytes : List ℕ) → IsRunning self.old feed bytes → OnOk result (IsRunning self.new feed bytes) }
         ensures tail { self.new.tail.items ≡ self.old.tail.items }
+        ensures opening { self.new.opening.items ≡ self.old.opening.items }
         ensures can { CanRun self.new }
     {
         let query = copy(alloc, &self.query)?;
@@ -104,7 +107,7 @@ impl Machine for LiveMachine {
         if !is_in_range(&state) {
             return Err(Stop::TooLong);
         }
-        match spell(alloc, &state, &self.tail) {
+        match spell(alloc, &self.opening, &state, &self.tail) {
             Ok(text) => Ok(text),
             Err(_) => Err(Stop::OutOfMemory),
         }
@@ -116,12 +119,16 @@ impl Machine for LiveMachine {
             accepted,
             options,
         } = recipe;
+        let Ok(opening) = open_states(alloc, &options.form) else {
+            return Err(Stop::OutOfMemory);
+        };
         let mut buffer = Buffer::new(alloc);
-        match LiveRun::start(alloc, accepted, options.for_run(), Keep::State, &mut buffer) {
+        match LiveRun::start(alloc, accepted, options, Keep::State, &mut buffer) {
             Ok(run) => Ok(Started {
                 machine: LiveMachine {
                     run,
                     query,
+                    opening,
                     tail: Vec::new(alloc),
                     taken: 0,
                 },
@@ -152,12 +159,27 @@ impl Machine for LiveMachine {
     ghost has_state = { has_state };
 }
 
-// The spelling of a state, and these bytes behind it.
-fn spell(alloc: Global, state: &LiveState, tail: &[u8]) -> Result<Vec<u8>, OutOfMemory>
-    ensures { IfOk result (λ text. text.items ≡ spelled state.now ++ tail.now) }
+// What the states of a run over a feed in this form begin with.
+pub(crate) fn open_states(alloc: Global, form: &FeedForm) -> Result<Vec<u8>, OutOfMemory>
+    ensures { IfOk result (λ front. front.items ≡ opening form.now) }
+{
+    let mut front = Vec::new(alloc);
+    put_opening(&mut front, form)?;
+    Ok(front)
+}
+
+// The spelling of a state after its opening, and these bytes behind it.
+fn spell(
+    alloc: Global,
+    opening: &[u8],
+    state: &RunState,
+    tail: &[u8],
+) -> Result<Vec<u8>, OutOfMemory>
+    ensures { IfOk result (λ text. text.items ≡ (opening.now ++ (kept_lines state.now.kept ++ live.spelled state.now.state)) ++ tail.now) }
 {
     let mut text = Vec::new(alloc);
-    encode(alloc, state, &mut text)?;
+    text.extend_from_slice(opening)?;
+    put_state(alloc, state, &mut text)?;
     text.extend_from_slice(tail)?;
     Ok(text)
 }

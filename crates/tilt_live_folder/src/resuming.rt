@@ -4,7 +4,7 @@ ghost use Rattle.tilt_feed_text.specs.Split.{ended};
 ghost use Rattle.tilt_live_folder.specs.Feeds.{IsLeft, RejectsState};
 ghost use Rattle.tilt_live_folder.specs.Machines.{CanRun, IsRunning};
 
-use crate::machine::LiveMachine;
+use crate::machine::{LiveMachine, open_states};
 use crate::recipe::LiveRecipe;
 use std::alloc::Global;
 use tilt_exactly_once::{Refusal, Resumed};
@@ -26,19 +26,23 @@ pub(crate) fn resume_lines(
     ensures can { IfOk result (λ resumed. CanRun resumed.machine) }
 {
     let state = recipe.read(alloc, text)?;
-    let written = state.progress.written;
-    let taken = state.progress.bytes;
+    let written = state.state.progress.written;
+    let taken = state.state.progress.bytes;
     let LiveRecipe {
         query,
         accepted,
         options,
     } = recipe;
     let tail = Vec::new(alloc);
-    match LiveRun::resume(alloc, accepted, options.for_run(), state, Keep::State) {
+    let Ok(opening) = open_states(alloc, &options.form) else {
+        return Err(Refusal::OutOfMemory);
+    };
+    match LiveRun::resume(alloc, accepted, options, state, Keep::State) {
         Ok(run) => Ok(Resumed {
             machine: LiveMachine {
                 run,
                 query,
+                opening,
                 tail,
                 taken,
             },

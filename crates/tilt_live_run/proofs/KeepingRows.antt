@@ -1,5 +1,5 @@
 -- What is kept for the state of a run while its feed goes on.
-use Rattle.std.proofs.Common.{◌≡◌, ◌↔◌, ◌&&◌, Bool, refl, true, false, [], ◌∷◌, Some, Result, Ok, Err, OnOk, sym, ap, ◌∙◌, subst, inl, inr}
+use Rattle.std.proofs.Common.{◌≡◌, ◌↔◌, Bool, refl, true, false, [], ◌∷◌, Some, Result, Ok, Err, OnOk, sym, ap, ◌∙◌, subst, inl, inr}
 use Rattle.std.proofs.lemmas.Bool.{cases_Bool}
 use Rattle.std.proofs.lemmas.Option.{same_Some}
 use Rattle.std.specs.Option.{ForSome}
@@ -29,11 +29,6 @@ some-is P a is = λ x e. subst P (same_Some a x e) is
 pub needs-state : (keep : Keep) (has : Bool) → has ≡ needs_rows keep → (has ≡ true) ↔ (keep ≡ State)
 needs-state Nothing has is = (λ yes. absurd (cc (sym is ∙ yes)), λ e. absurd (cc e))
 needs-state State has is = (λ _. refl, λ _. is)
-
--- what the state needs is kept exactly if it is asked for, of a feed of rows
-pub needs-both : (keep : Keep) (rows has : Bool) → has ≡ (needs_rows keep && rows) → (has ≡ true) ↔ ((keep ≡ State) × (rows ≡ true))
-needs-both Nothing rows has is = (λ yes. absurd (cc (sym is ∙ yes)), λ both. absurd (cc both.0))
-needs-both State rows has is = (λ yes. (refl, sym is ∙ yes), λ both. is ∙ both.1)
 
 -- the same after a call, of a feed that isn't finished
 pub some-later : {A E : Type 0} (finished : Bool) (P : A → Type 0) (a : A) (result : Result (Unit {0}) E) → OnOk result (finished ≡ false → P a)

@@ -1,5 +1,5 @@
 -- What is left of the inputs of a feed.
-use Rattle.std.proofs.Common.{◌≡◌, ◌≤◌, ◌<◌, ◌^◌, ℕ, zero, suc, ℤ, ◌≤ℤ◌, neg_ℤ, Bool, true, false, int_le, List, [], ◌∷◌, ◌++◌, length, map, Option, Some, slice_get, Result, Ok, Err, IfOk, OnOk, refl, sym, ap, ◌∙◌, subst, inl, inr, arith}
+use Rattle.std.proofs.Common.{◌≡◌, ◌≤◌, ◌<◌, ◌^◌, ℕ, zero, suc, ℤ, ◌≤ℤ◌, neg_ℤ, Bool, true, false, int_le, List, [], ◌∷◌, ◌++◌, length, map, Option, None, Some, slice_get, Result, Ok, Err, IfOk, OnOk, refl, sym, ap, ◌∙◌, subst, inl, inr, arith}
 use Rattle.std.proofs.lemmas.Bool.{cases_Bool}
 use Rattle.std.proofs.lemmas.Int.{ints}
 use Rattle.std.proofs.lemmas.List.{length-map}
@@ -18,12 +18,18 @@ use Rattle.tilt_feed.specs.Printed.{printed}
 use Rattle.tilt_feed.specs.declared.edge.Edge.{Edge}
 use Rattle.tilt_feed.specs.declared.event.Event.{Event}
 use Rattle.tilt_feed.specs.declared.open_row.OpenRow.{OpenRow}
+use Rattle.tilt_feed_form.proofs.Keeping.{IsGoing, kept-many, kept-same, lines-going}
 use Rattle.tilt_feed_form.proofs.Saying.{rows-same}
+use Rattle.tilt_feed_form.specs.Kept.{IsOfForm, bare_kept, kept_with}
+use Rattle.tilt_feed_form.specs.Kept as texts
 use Rattle.tilt_feed_text.proofs.Splitting.{are-ended}
-use Rattle.tilt_feed_form.specs.Said.{FeedState, after_lines, first_state}
-use Rattle.tilt_feed_form.specs.Said.TextKept.{OfRows}
+use Rattle.tilt_feed_form.specs.Said.{FeedState, TextKept, after_lines, first_state}
+use Rattle.tilt_feed_form.specs.Said.TextKept.{OfReadings, OfRows}
+use Rattle.tilt_feed_form.specs.Setup.{SetupParts}
 use Rattle.tilt_feed_form.specs.declared.feed_form.FeedForm.{FeedForm}
 use Rattle.tilt_feed_form.specs.declared.feed_form.FeedForm.TheVariants.{Readings, Rows}
+use Rattle.tilt_feed_form.specs.declared.kept_feed.KeptFeed.{KeptFeed}
+use Rattle.tilt_feed_form.specs.declared.kept_feed.KeptFeed.TheVariants as given
 use Rattle.tilt_feed_text.proofs.Saying.{lines-said}
 use Rattle.tilt_feed_text.specs.Said.{lines_said, number_after}
 use Rattle.tilt_feed_text.specs.Said as rows
@@ -33,20 +39,26 @@ use Rattle.tilt_live.proofs.Ended.{ends-within}
 use Rattle.tilt_live.specs.Resuming.{IsLeft}
 use Rattle.tilt_live_run.proofs.Newly.{state-fed}
 use Rattle.tilt_live_run.proofs.Upto.{printed-fills}
-use Rattle.tilt_live_run.specs.Joined.{joined, rows_at}
-use Rattle.tilt_live_run.specs.Left.{each_left, inputs_left, is_rows, progress_of, row_kept, row_options, rows_left, state_left}
+use Rattle.tilt_live_run.specs.Joined.{bare, joined, rows_at}
+use Rattle.tilt_live_run.specs.Leaves.{AreResumable, Belongs, GoesOn}
+use Rattle.tilt_live_run.specs.Left.{each_left, given_by, inputs_left, kept_beside, kept_given, none_held, progress_of, readings_kept, rows_left, state_left}
+use Rattle.tilt_live_run.specs.Left.{watermark_options}
 use Rattle.tilt_live_run.specs.Runs.{number_of, state_after}
 use Rattle.tilt_live_run.specs.declared.run_options.RunOptions.{RunOptions}
 use Rattle.tilt_live_state.specs.State.{InputParts, LiveStateParts, feed_of, kept_of, waiting_of}
 use Rattle.tilt_live_state.specs.Valid.{IsInput, IsStateOf}
 use Rattle.tilt_outside.specs.Counts.{added_count}
+use Rattle.tilt_reading_text.specs.Kept.{BareText, bare_text}
+use Rattle.tilt_reading_text.specs.Said as readings
+use Rattle.tilt_run_state.specs.State.{RunStateParts}
+use Rattle.tilt_run_state.specs.Valid.{FitsForm, HasOptions}
 use Rattle.tilt_stream.specs.Pieces.{kept}
 use Rattle.tilt_stream.specs.Snap.{InOrder, Snapshot}
 use Rattle.tilt_syntax.specs.Tree.{StatementTree}
 use Rattle.tilt_watermarks.proofs.Stepping.{all-steps, keeps-first, kept-of}
 use Rattle.tilt_watermarks.specs.Held.{Waiting}
 use Rattle.tilt_watermarks.specs.Laws.{IsFit, IsKeptOf, edges_of, watermarked}
-use Rattle.tilt_watermarks.specs.Steps.{nothing_kept}
+use Rattle.tilt_watermarks.specs.Steps.{Kept, nothing_kept}
 use Rattle.tilt_watermarks.specs.declared.options.Options.{Options}
 
 -- rows by their number, and none
@@ -103,6 +115,13 @@ module _ (core : CoreParts) (feed : Feed) where
       let rest : edges_of waiting ≡ edges_in inputs = cc same in
       let more = joined-ended (suc number) inputs waiting end rest in
       λ k. record { rows = (sym (rows-ended x.rows end)) k; edge = edge k; held = w.held } ∷ more k
+
+  -- of inputs of which no update is held
+  pub bare-open : (inputs : List InputFeed) → feed.finished ≡ false → map bare (map (left_input first) inputs) ≡ each_left core feed inputs (map none_held inputs)
+  bare-open [] going = refl
+  bare-open (x ∷ inputs) going =
+      let more = bare-open inputs going in
+      λ k. record { rows = (sym (rows-open x.rows going)) k; edge = x.edge; held = [] } ∷ more k
 
   left-many : (inputs : List InputFeed) (waiting : List Waiting) → edges_of waiting ≡ edges_in inputs → length (each_left core feed inputs waiting) ≡ length inputs
   left-many [] waiting same = refl
@@ -182,7 +201,7 @@ left-inputs core feed lateness (x ∷ inputs) (w ∷ waiting) same settled fit =
 
 -- the state that is left is one of the query
 pub left-state : (accepted : AcceptedParts) (options : RunOptions) (state : FeedState) (events : List Event) (query : List StatementTree) (bytes lines written : ℕ)
-    → IsAccepted accepted → state.feed ≡ fed accepted.core events → IsKeptOf (row_options options.form).lateness (row_kept state.kept) state.feed
+    → IsAccepted accepted → state.feed ≡ fed accepted.core events → IsKeptOf (watermark_options options.form).lateness (kept_beside state.kept state.feed) state.feed
     → IsStateOf accepted.core (record { query = query; progress = progress_of options accepted.core state bytes lines written; inputs = inputs_left accepted.core state })
 left-state accepted options state events query bytes lines written valid is keeps =
     let core = accepted.core in
@@ -191,8 +210,8 @@ left-state accepted options state events query bytes lines written valid is keep
     record {
       low = within.0;
       high = within.1;
-      counted = left-many core state.feed state.feed.inputs (row_kept state.kept).inputs keeps.edges ∙ ap (λ (f : Feed). length f.inputs) is ∙ fed-length core events;
-      inputs = left-inputs core state.feed (row_options options.form).lateness state.feed.inputs (row_kept state.kept).inputs keeps.edges
+      counted = left-many core state.feed state.feed.inputs (kept_beside state.kept state.feed).inputs keeps.edges ∙ ap (λ (f : Feed). length f.inputs) is ∙ fed-length core events;
+      inputs = left-inputs core state.feed (watermark_options options.form).lateness state.feed.inputs (kept_beside state.kept state.feed).inputs keeps.edges
           (subst (λ (f : Feed). AreSettled f.finished f.inputs) (sym is) (fed-settled (length core.inputs) events)) keeps.held;
     }
 
@@ -207,37 +226,60 @@ rows-belong options inputs lines =
     subst (λ (s : rows.FeedState). IsKeptOf options.lateness s.kept s.feed) (lines-said options inputs 0 (rows.first_state many) lines)
     (subst (λ (f : Feed). IsKeptOf options.lateness keeps f) (sym steps.goes.is) (kept-of options.lateness keeps steps.later steps.keeps))
 
--- a text of rows keeps what its watermarks keep
-record IsKept (form : FeedForm) (state : FeedState) : Type 0 where
-  is : OfRows (row_kept state.kept) ≡ state.kept
-  belongs : IsKeptOf (row_options form).lateness (row_kept state.kept) state.feed
+-- watermarks that hold nothing keep what belongs to a feed
+edges-none : (inputs : List InputFeed) → edges_of (map none_held inputs) ≡ edges_in inputs
+edges-none [] = refl
+edges-none (x ∷ inputs) = ap (λ (list : List Edge). x.edge ∷ list) (edges-none inputs)
 
-lines-kept : (form : FeedForm) (inputs : List (List ℕ)) (lines : List (List ℕ)) → is_rows form ≡ true
-    → IsKept form (after_lines form inputs 0 (first_state form (length inputs)) lines)
-lines-kept (Rows options) inputs lines are =
-    subst (IsKept (Rows options)) (sym (rows-same options inputs 0 (rows.first_state (length inputs)) lines))
-    (record { is = refl; belongs = rows-belong options inputs lines })
-lines-kept (Readings setup) inputs lines are = absurd (cc are)
+none-fit : (inputs : List InputFeed) → AllByRecursion (IsFit None) (map none_held inputs)
+none-fit [] = tt
+none-fit (x ∷ inputs) = (record { fits = refl; none = λ _. refl }, none-fit inputs)
 
--- the watermarks of a run keep what belongs to its feed
-pub state-kept : (options : RunOptions) (core : CoreParts) (bytes : List ℕ) → is_rows options.form ≡ true
-    → (let state = state_after options core bytes in IsKeptOf (row_options options.form).lateness (row_kept state.kept) state.feed)
-state-kept options core bytes are = (lines-kept options.form core.inputs (whole_lines bytes) are).belongs
+readings_belong : (setup : SetupParts) (kept : TextKept) (feed : Feed) → IsGoing (Readings setup) (record { kept = kept; feed = feed })
+    → Belongs (Readings setup) (record { kept = kept; feed = feed })
+readings_belong setup (OfRows kept) feed is = absurd is.0
+readings_belong setup (OfReadings kept) feed is = record {
+  of_form = is.0;
+  goes_on = is.1;
+  kept = record { edges = edges-none feed.inputs; finished = refl; held = none-fit feed.inputs; greatest = λ tick e. absurd (cc e) };
+}
+
+-- what is kept of the text of a feed after lines belongs to it
+lines-belong : (form : FeedForm) (inputs : List (List ℕ)) (lines : List (List ℕ)) → Belongs form (after_lines form inputs 0 (first_state form (length inputs)) lines)
+lines-belong (Rows options) inputs lines =
+    subst (Belongs (Rows options)) (sym (rows-same options inputs 0 (rows.first_state (length inputs)) lines))
+    (record { of_form = tt; goes_on = tt; kept = rows-belong options inputs lines })
+lines-belong (Readings setup) inputs lines =
+    let state = after_lines (Readings setup) inputs 0 (first_state (Readings setup) (length inputs)) lines in
+    readings_belong setup state.kept state.feed (lines-going (Readings setup) inputs lines)
+
+pub state-belongs : (options : RunOptions) (core : CoreParts) (bytes : List ℕ) → Belongs options.form (state_after options core bytes)
+state-belongs options core bytes = lines-belong options.form core.inputs (whole_lines bytes)
+
+-- what a state gives the text of a feed is what was kept of it
+given-same : (form : FeedForm) (kept : TextKept) (feed : Feed) (live : LiveStateParts) → IsOfForm form kept → kept_of live ≡ kept_beside kept feed
+    → kept_with form (kept_given (record { state = live; kept = readings_kept kept })) ≡ kept
+given-same (Rows options) (OfRows kept) feed live of own = ap OfRows own
+given-same (Rows options) (OfReadings kept) feed live of own = absurd of
+given-same (Readings setup) (OfRows kept) feed live of own = absurd of
+given-same (Readings setup) (OfReadings kept) feed live of own = kept-same (Readings setup) (OfReadings kept) of
 
 -- what a state says that a run left
-pub state-left : (options : RunOptions) (core : CoreParts) (query : List StatementTree) (bytes : List ℕ) (written : ℕ) (s : LiveStateParts) → is_rows options.form ≡ true
+pub state-left : (options : RunOptions) (core : CoreParts) (query : List StatementTree) (bytes : List ℕ) (written : ℕ) (s : RunStateParts)
     → s ≡ state_left options core query bytes written
-    → IsLeft core (state_after options core bytes).feed s.progress.from s.progress.finished (map feed_of s.inputs)
-    × (OfRows (kept_of s) ≡ (state_after options core bytes).kept)
-state-left options core query bytes written s are is =
+    → IsLeft core (state_after options core bytes).feed s.state.progress.from s.state.progress.finished (map feed_of s.state.inputs)
+    × (kept_with options.form (kept_given s) ≡ (state_after options core bytes).kept)
+state-left options core query bytes written s is =
     let state = state_after options core bytes in
-    let kept = row_kept state.kept in
-    let keeps = state-kept options core bytes are in
+    let kept = kept_beside state.kept state.feed in
+    let belongs = state-belongs options core bytes in
+    let keeps = belongs.kept in
     let of = state-fed options core bytes in
     let feeds = left-feeds core state.feed state.feed.inputs kept.inputs keeps.edges in
     let waits = left-waiting core state.feed state.feed.inputs kept.inputs keeps.edges in
-    let own : kept_of s ≡ kept =
-    rw is (λ k. record { inputs = waits k; finished = (sym keeps.finished) k; greatest = kept.greatest; latest = kept.latest }) in (
+    let left = state_left options core query bytes written in
+    let own : kept_of left.state ≡ kept =
+    λ k. record { inputs = waits k; finished = (sym keeps.finished) k; greatest = kept.greatest; latest = kept.latest } in (
       rw is record {
         events = of.events;
         feed_is = ap (λ (s : FeedState). s.feed) of.is;
@@ -245,7 +287,7 @@ state-left options core query bytes written s are is =
         finished_is = refl;
         inputs_are = feeds;
       },
-      ap OfRows own ∙ (lines-kept options.form core.inputs (whole_lines bytes) are).is,
+      rw is (given-same options.form state.kept state.feed left.state belongs.of_form own),
     )
 
 -- what is valid of inputs: the feed of each is in order,
@@ -266,27 +308,80 @@ inputs-few core inputs valid many =
     let len = length-map inputs waiting_of in
     omega (arith, few, len, many)
 
+-- So the text of a feed can go on from what a state gives it
+given_fits : (core : CoreParts) (form : FeedForm) (state : LiveStateParts) (kept : Option BareText) → IsCore core → IsStateOf core state
+    → FitsForm form (record { state = state; kept = kept }) → HasOptions form (record { state = state; kept = kept }) → texts.FitsForm form (given_by state kept)
+given_fits core (Rows options) state None valid of fits has = (
+  inputs-few core state.inputs valid of.counted,
+  subst (λ (o : Options). AllByRecursion (IsFit o.lateness) (map waiting_of state.inputs)) has (inputs-fit state.progress.options.lateness state.inputs of.inputs),
+)
+given_fits core (Rows options) state (Some kept) valid of fits has = absurd (cc fits)
+given_fits core (Readings setup) state None valid of fits has = absurd fits
+given_fits core (Readings setup) state (Some kept) valid of fits has = (fits.counted, fits.resumable)
+
+pub given-fits : (core : CoreParts) (form : FeedForm) (s : RunStateParts) → IsCore core → IsStateOf core s.state → FitsForm form s → HasOptions form s
+    → texts.FitsForm form (kept_given s)
+given-fits core form s valid of fits has = given_fits core form s.state s.kept valid of fits has
+
+-- a text of readings can go on from what is kept of it
+pub kept-resumable : (form : FeedForm) (kept : TextKept) (bare : KeptFeed) → bare ≡ bare_kept kept → texts.FitsForm form bare → AreResumable (readings_kept kept)
+kept-resumable form (OfRows kept) bare is fits = tt
+kept-resumable (Rows options) (OfReadings kept) bare is fits = absurd (rw is at fits)
+kept-resumable (Readings setup) (OfReadings kept) bare is fits = (rw is at fits).1
+
+-- and what is left fits the form of its feed
+none-held-left : (core : CoreParts) (feed : Feed) (inputs all : List InputFeed)
+    → AllByRecursion (λ (input : InputParts). input.held ≡ []) (each_left core feed all (map none_held inputs))
+none-held-left core feed [] [] = tt
+none-held-left core feed [] (y ∷ all) = tt
+none-held-left core feed (x ∷ inputs) [] = tt
+none-held-left core feed (x ∷ inputs) (y ∷ all) = (refl, none-held-left core feed inputs all)
+
+pub left-fits : (core : CoreParts) (form : FeedForm) (kept : TextKept) (feed : Feed) (s : RunStateParts) → IsOfForm form kept
+    → s.state.progress.options ≡ watermark_options form → s.state.inputs ≡ each_left core feed feed.inputs (kept_beside kept feed).inputs
+    → s.kept ≡ readings_kept kept → AreResumable s.kept → FitsForm form s
+left-fits core (Rows options) (OfRows kept) feed s of asked inputs is fit = is
+left-fits core (Rows options) (OfReadings kept) feed s of asked inputs is fit = absurd of
+left-fits core (Readings setup) (OfRows kept) feed s of asked inputs is fit = absurd of
+left-fits core (Readings setup) (OfReadings kept) feed s of asked inputs is fit =
+    rw is (record {
+      resumable = rw is at fit;
+      counted = kept-many setup.options kept.feed of;
+      options = asked;
+      none_held = subst (AllByRecursion (λ (input : InputParts). input.held ≡ [])) (sym inputs) (none-held-left core feed feed.inputs feed.inputs);
+    })
+
 -- the state that is left after bytes is the one after those of their lines
 pub state-ended : (options : RunOptions) (core : CoreParts) (query : List StatementTree) (bytes : List ℕ) (count written : ℕ) → count ≡ added_count 0 (length (ended bytes))
-    → ◌≡◌ {A = LiveStateParts}
+    → ◌≡◌ {A = RunStateParts}
     (record {
-      query = query;
-      progress = progress_of options core (state_after options core bytes) count (number_of bytes) written;
-      inputs = inputs_left core (state_after options core bytes);
+      state = record {
+        query = query;
+        progress = progress_of options core (state_after options core bytes) count (number_of bytes) written;
+        inputs = inputs_left core (state_after options core bytes);
+      };
+      kept = readings_kept (state_after options core bytes).kept;
     }) (state_left options core query (ended bytes) written)
 state-ended options core query bytes count written is =
     let lines = sym (are-ended bytes).lines in
     let state = λ (list : List (List ℕ)). after_lines options.form core.inputs 0 (first_state options.form (length core.inputs)) list in
     λ k. record {
-      query = query;
-      progress = progress_of options core (state (lines k)) (is k) (number_after 0 (lines k)) written;
-      inputs = inputs_left core (state (lines k));
+      state = record {
+        query = query;
+        progress = progress_of options core (state (lines k)) (is k) (number_after 0 (lines k)) written;
+        inputs = inputs_left core (state (lines k));
+      };
+      kept = readings_kept (state (lines k)).kept;
     }
 
 -- what is so of a value is so of it, said otherwise
 pub if-ok : {A E : Type 0} (P Q : A → Type 0) (result : Result A E) → ((x : A) → P x → Q x) → IfOk result P → IfOk result Q
 if-ok P Q (Ok x) into is = into x is
 if-ok P Q (Err e) into is = tt
+
+pub both-ok : {A E : Type 0} (P Q R : A → Type 0) (result : Result A E) → ((x : A) → P x → Q x → R x) → IfOk result P → IfOk result Q → IfOk result R
+both-ok P Q R (Ok x) into one two = into x one two
+both-ok P Q R (Err e) into one two = tt
 
 pub on-into : {A E : Type 0} (P Q : Type 0) (result : Result A E) → (P → Q) → OnOk result P → OnOk result Q
 on-into P Q (Ok x) into is = into is
@@ -298,3 +393,24 @@ pub left-same : (core : CoreParts) (feed : Feed) (from start : ℤ) (finished en
 left-same core feed from start finished ended inputs known a b c is =
     subst (λ (t : ℤ). IsLeft core feed t ended known) (sym a)
     (subst (λ (t : Bool). IsLeft core feed from t known) (sym b) (subst (λ (t : List InputFeed). IsLeft core feed from finished t) (sym c) is))
+
+-- what is left has what is asked of watermarks
+pub left-asked : (form : FeedForm) (s : RunStateParts) → s.state.progress.options ≡ watermark_options form → HasOptions form s
+left-asked (Rows options) s is = is
+left-asked (Readings setup) s is = tt
+
+-- what a text keeps, by what is kept of it without its form
+pub rows-kept : (bare : Kept) (kept : TextKept) → given.Rows bare ≡ bare_kept kept → OfRows bare ≡ kept
+rows-kept bare (OfRows kept) is = let same : bare ≡ kept = cc is in ap OfRows same
+rows-kept bare (OfReadings kept) is = absurd (cc is)
+
+pub readings-are : (bare : BareText) (kept : TextKept) → given.Readings bare ≡ bare_kept kept
+    → (text : readings.TextKept) × (OfReadings text ≡ kept) × (bare ≡ bare_text text)
+readings-are bare (OfRows kept) is = absurd (cc is)
+readings-are bare (OfReadings kept) is = (kept, refl, cc is)
+
+-- a feed of readings goes on
+pub readings-go-on : (form : FeedForm) (text : readings.TextKept) (kept : TextKept) (feed : Feed) → OfReadings text ≡ kept → IsOfForm form kept
+    → GoesOn form (record { kept = kept; feed = feed }) → feed.finished ≡ false
+readings-go-on (Rows options) text kept feed is of goes = absurd (rw (← is) at of)
+readings-go-on (Readings setup) text kept feed is of goes = goes

@@ -16,3 +16,7 @@ abbrev pub joined : ℕ → List InputFeed → List Waiting → List InputParts
 joined number known [] = []
 joined number known (input ∷ waiting) =
     record { rows = rows_at known number; edge = input.edge; held = input.held } ∷ joined (suc number) known waiting
+
+-- an input of which no update is held
+abbrev pub bare : InputFeed → InputParts
+bare input = record { rows = input.rows; edge = input.edge; held = [] }

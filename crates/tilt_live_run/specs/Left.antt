@@ -1,13 +1,14 @@
--- What a run that took bytes of a feed of rows hands on to the next run (our own rule). Times are in ticks.
-use Rattle.std.specs.Prelude.{◌≡◌, ℕ, Bool, true, ◌&&◌, is_some, List, [], ◌∷◌, length, None, if◌then◌else◌}
+-- What a run that took bytes of a feed hands on to the next run (our own rule). Times are in ticks.
+use Rattle.std.specs.Prelude.{◌≡◌, ℕ, Bool, true, List, [], ◌∷◌, length, map, Option, None, Some, if◌then◌else◌}
 use Rattle.tilt_core.specs.Core.{CoreParts}
 use Rattle.tilt_feed.specs.Feed.{Feed, InputFeed}
 use Rattle.tilt_feed.specs.Printed.{begun}
-use Rattle.tilt_feed_form.specs.Machine.{form_of}
-use Rattle.tilt_feed_form.specs.Said.{FeedState, TextKept, options_if_rows}
+use Rattle.tilt_feed_form.specs.Said.{FeedState, TextKept}
 use Rattle.tilt_feed_form.specs.Said.TextKept.{OfReadings, OfRows}
 use Rattle.tilt_feed_form.specs.declared.feed_form.FeedForm.{FeedForm}
 use Rattle.tilt_feed_form.specs.declared.feed_form.FeedForm.TheVariants.{Readings, Rows}
+use Rattle.tilt_feed_form.specs.declared.kept_feed.KeptFeed.{KeptFeed}
+use Rattle.tilt_feed_form.specs.declared.kept_feed.KeptFeed.TheVariants as bare
 use Rattle.tilt_input_state.specs.Resume.{first_read, resume_tick}
 use Rattle.tilt_live_run.specs.KeptRows.{has_rows}
 use Rattle.tilt_live_run.specs.Output.{begun_start}
@@ -15,29 +16,37 @@ use Rattle.tilt_live_run.specs.Runs.{number_of, state_after}
 use Rattle.tilt_live_run.specs.declared.line_run.LineRun.{LineRun}
 use Rattle.tilt_live_run.specs.declared.live_run.LiveRun.{LiveRun}
 use Rattle.tilt_live_run.specs.declared.run_options.RunOptions.{RunOptions}
-use Rattle.tilt_live_state.specs.State.{InputParts, LiveStateParts}
+use Rattle.tilt_live_state.specs.State.{InputParts, LiveStateParts, kept_of}
 use Rattle.tilt_live_state.specs.declared.progress.Progress.{Progress}
 use Rattle.tilt_outside.specs.Counts.{added_count}
+use Rattle.tilt_reading_text.specs.Kept.{BareText, bare_text}
+use Rattle.tilt_run_state.specs.State.{RunStateParts}
 use Rattle.tilt_stream.specs.Pieces.{kept}
 use Rattle.tilt_stream.specs.Snap.{Snapshot}
 use Rattle.tilt_syntax.specs.Tree.{StatementTree}
 use Rattle.tilt_watermarks.specs.Held.{Waiting}
-use Rattle.tilt_watermarks.specs.Steps.{Kept, nothing_kept}
+use Rattle.tilt_watermarks.specs.Laws.{no_options}
+use Rattle.tilt_watermarks.specs.Steps.{Kept}
 use Rattle.tilt_watermarks.specs.declared.options.Options.{Options}
 
--- whether the lines of a feed are rows
-abbrev pub is_rows : FeedForm → Bool
-is_rows form = is_some (options_if_rows form)
+-- what is asked of the watermarks of a feed: nothing of those of readings
+abbrev pub watermark_options : FeedForm → Options
+watermark_options (Rows options) = options
+watermark_options (Readings setup) = no_options
 
--- what is asked of the watermarks of a feed of rows; a feed of readings has none
-abbrev pub row_options : FeedForm → Options
-row_options (Rows options) = options
-row_options (Readings setup) = record { idle = None; ahead = None; lateness = None }
+-- an input of which no update is held
+abbrev pub none_held : InputFeed → Waiting
+none_held input = record { edge = input.edge; held = [] }
 
--- what the watermarks of a feed of rows keep
-abbrev pub row_kept : TextKept → Kept
-row_kept (OfRows kept) = kept
-row_kept (OfReadings kept) = nothing_kept 0
+-- what watermarks keep of a feed: those of readings hold no update
+abbrev pub kept_beside : TextKept → Feed → Kept
+kept_beside (OfRows kept) feed = kept
+kept_beside (OfReadings kept) feed = record { inputs = map none_held feed.inputs; finished = feed.finished; greatest = None; latest = None }
+
+-- what the text of a feed of readings keeps
+abbrev pub readings_kept : TextKept → Option BareText
+readings_kept (OfRows kept) = None
+readings_kept (OfReadings kept) = Some (bare_text kept)
 
 -- of the closed rows of an input those that the rest of the output reads. Of a finished feed no row is needed
 abbrev pub rows_left : CoreParts → Feed → List Snapshot → List Snapshot
@@ -55,20 +64,20 @@ each_left core feed (input ∷ inputs) (first ∷ waiting) = left_of core feed i
 
 -- the same of a feed and its watermarks
 abbrev pub inputs_left : CoreParts → FeedState → List InputParts
-inputs_left core state = each_left core state.feed state.feed.inputs (row_kept state.kept).inputs
+inputs_left core state = each_left core state.feed state.feed.inputs (kept_beside state.kept state.feed).inputs
 
 -- how far a run is after this many bytes and lines of its feed, when this many bytes of output were written
 abbrev pub progress_of : RunOptions → CoreParts → FeedState → ℕ → ℕ → ℕ → Progress
 progress_of options core state bytes lines written = record {
-  options = row_options options.form;
+  options = watermark_options options.form;
   bytes = bytes;
   lines = lines;
   written = written;
   from = resume_tick core state.feed;
   shown = begun_start (begun core state.feed);
   finished = state.feed.finished;
-  greatest = (row_kept state.kept).greatest;
-  latest = (row_kept state.kept).latest;
+  greatest = (kept_beside state.kept state.feed).greatest;
+  latest = (kept_beside state.kept state.feed).latest;
 }
 
 -- how far it is after these bytes
@@ -77,16 +86,27 @@ progress_left options core bytes written =
     progress_of options core (state_after options core bytes) (added_count 0 (length bytes)) (number_of bytes) written
 
 -- the state of a run of a query after bytes that end with a line
-abbrev pub state_left : RunOptions → CoreParts → List StatementTree → List ℕ → ℕ → LiveStateParts
+abbrev pub state_left : RunOptions → CoreParts → List StatementTree → List ℕ → ℕ → RunStateParts
 state_left options core query bytes written = record {
-  query = query;
-  progress = progress_left options core bytes written;
-  inputs = inputs_left core (state_after options core bytes);
+  state = record {
+    query = query;
+    progress = progress_left options core bytes written;
+    inputs = inputs_left core (state_after options core bytes);
+  };
+  kept = readings_kept (state_after options core bytes).kept;
 }
 
--- whether a run keeps what its state needs; only a run of a feed of rows does
+-- what a state gives the text of a feed that goes on from it
+abbrev pub given_by : LiveStateParts → Option BareText → KeptFeed
+given_by state None = bare.Rows (kept_of state)
+given_by state (Some kept) = bare.Readings kept
+
+abbrev pub kept_given : RunStateParts → KeptFeed
+kept_given s = given_by s.state s.kept
+
+-- whether a run keeps what its state needs
 abbrev pub keeps_state : LineRun → Bool
-keeps_state run = has_rows run.rows && is_rows (form_of run.text)
+keeps_state run = has_rows run.rows
 
 abbrev pub KeepsState : LiveRun → Type 0
 KeepsState run = keeps_state run.run ≡ true

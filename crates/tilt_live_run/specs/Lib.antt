@@ -1,6 +1,7 @@
 pub mod Adds
 pub mod Joined
 pub mod KeptRows
+pub mod Leaves
 pub mod Left
 pub mod Output
 pub mod Places

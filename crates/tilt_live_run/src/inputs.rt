@@ -2,14 +2,17 @@
 ghost use Rattle.std.specs.Prelude.{◌≡◌, map, IfOk};
 ghost use Rattle.std.specs.List.{AllByRecursion};
 ghost use Rattle.tilt_feed.specs.Laws.{IsInOrder};
-ghost use Rattle.tilt_live_run.specs.Joined.{joined, rows_at};
+ghost use Rattle.tilt_live_run.specs.Joined.{bare, joined, rows_at};
+ghost use Rattle.tilt_live_run.specs.Left.{kept_given};
 ghost use Rattle.tilt_live_state.specs.State.{feed_of, waiting_of};
 ghost use Rattle.tilt_stream.specs.Snap.{AreRows};
 
 use std::alloc::{AllocError as OutOfMemory, Global};
 use tilt_feed::Update;
+use tilt_feed_form::KeptFeed;
 use tilt_input_state::InputState as KnownInput;
-use tilt_live_state::{InputState, Progress};
+use tilt_live_state::{InputState, LiveState, Progress};
+use tilt_reading_text::KeptText;
 use tilt_stream::{Row, Rows};
 use tilt_watermarks::{KeptInput, KeptState};
 
@@ -104,8 +107,49 @@ fn known_input(alloc: Global, input: &InputState) -> Result<KnownInput, OutOfMem
     Ok(known)
 }
 
+// What is known of each input, of which no update is held.
+pub(crate) fn bare_inputs(
+    alloc: Global,
+    known: &[KnownInput],
+) -> Result<Vec<InputState>, OutOfMemory>
+    ensures { IfOk result (λ inputs. inputs.items ≡ map bare known.now) }
+{
+    let mut inputs = Vec::new(alloc);
+    for input in known {
+        inputs.push(bare_input(alloc, input)?)?;
+    }
+    Ok(inputs)
+}
+
+// The same of one.
+fn bare_input(alloc: Global, known: &KnownInput) -> Result<InputState, OutOfMemory>
+    ensures { IfOk result (λ input. input ≡ bare known.now) }
+{
+    Ok(InputState {
+        rows: known_rows(alloc, known)?,
+        edge: known.edge(),
+        held: Vec::new(alloc),
+    })
+}
+
+// What a state gives the text of a feed: what its watermarks keep, or what is kept of a text of readings.
+pub(crate) fn kept_feed(
+    alloc: Global,
+    state: &LiveState,
+    kept: Option<KeptText>,
+) -> Result<KeptFeed, OutOfMemory>
+    ensures { IfOk result (λ given. given ≡ kept_given (record { state = state.now; kept = kept })) }
+{
+    match kept {
+        None => Ok(KeptFeed::Rows {
+            kept: kept_state(alloc, state.progress, &state.inputs)?,
+        }),
+        Some(kept) => Ok(KeptFeed::Readings { kept }),
+    }
+}
+
 // What the watermarks keep of inputs.
-pub(crate) fn kept_state(
+fn kept_state(
     alloc: Global,
     progress: Progress,
     inputs: &[InputState],

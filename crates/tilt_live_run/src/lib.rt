@@ -6,7 +6,7 @@
 //! run after the bytes with the piece (`goes_on`). They also say that exactly what the lines of the piece add was written (`adds`, by
 //! `specs/Output`), and that exactly the bad ones of them were reported (`reports`). So it doesn't matter how the feed was cut into pieces.
 //!
-//! A run of a feed of rows that keeps what its state needs hands it on by `LiveRun::state`: exactly what `specs/Left` says of the bytes of
+//! A run that keeps what its state needs hands it on by `LiveRun::state`: exactly what `specs/Left` says of the bytes of
 //! its lines. The clauses of `LiveRun::resume` say that it makes of that state the run after these bytes, which goes on as the other would
 //! have.
 #![tactic(auto)]
@@ -16,6 +16,7 @@ mod events;
 mod inputs;
 mod keep;
 mod law;
+mod left;
 mod line_run;
 mod live_run;
 mod place;

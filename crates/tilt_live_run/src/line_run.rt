@@ -1,18 +1,21 @@
 // The run of a query, line by line.
 ghost use Rattle.std.specs.Prelude.{◌≡◌, Option, map, ◌++◌, ℕ, ℤ, [], None};
-ghost use Rattle.std.specs.Prelude.{◌&&◌, true, false, length, drop, if◌then◌else◌, IfOk, IfErr, OnOk, MatchResult};
+ghost use Rattle.std.specs.Prelude.{true, false, length, drop, if◌then◌else◌, IfOk, IfErr, OnOk, MatchResult};
 ghost use Rattle.tilt_compiler.specs.Accepted.{AcceptedParts};
 ghost use Rattle.tilt_feed.specs.Feed.{Feed, empty_feed};
 ghost use Rattle.tilt_feed.specs.Printed.{begun, printed};
 ghost use Rattle.tilt_feed_form.specs.Report.{report};
 ghost use Rattle.tilt_feed_form.specs.Machine.{form_of, kept_of};
 ghost use Rattle.tilt_feed_form.specs.Said.{FeedState, after_line, ends, first_state, line_fault, no_end};
-ghost use Rattle.tilt_feed_form.specs.Said.TextKept.{OfRows};
+ghost use Rattle.tilt_feed_form.specs.Kept.{bare_kept, kept_with};
+ghost use Rattle.tilt_feed_form.specs.declared.feed_form.FeedForm.{FeedForm};
 ghost use Rattle.tilt_input_state.specs.Resume.{first_read};
 ghost use Rattle.tilt_live.specs.Lives.{IsLive, IsLiveOf, tick_of_live};
 ghost use Rattle.tilt_live_run.specs.Adds.{Adds};
 ghost use Rattle.tilt_live_run.specs.KeptRows.{KeepsRows, has_rows, needs_rows};
-ghost use Rattle.tilt_live_run.specs.Left.{each_left, inputs_left, is_rows, keeps_state, progress_of, row_kept, row_options};
+ghost use Rattle.tilt_live_run.specs.Left.{each_left, inputs_left, keeps_state, kept_given, none_held, progress_of};
+ghost use Rattle.tilt_live_run.specs.Left.{readings_kept, watermark_options};
+ghost use Rattle.tilt_live_run.specs.Leaves.{AreResumable, Belongs, IsLeftOf};
 ghost use Rattle.tilt_live_run.specs.Output.{begun_news, begun_start, first_news};
 ghost use Rattle.tilt_live_run.specs.Reported.{Reported};
 ghost use Rattle.tilt_live_run.specs.Runs.{IsLineRunOf};
@@ -23,14 +26,16 @@ ghost use Rattle.tilt_row_text.specs.Lines.{lines_in};
 ghost use Rattle.tilt_live.specs.Resuming.{IsLeft};
 ghost use Rattle.tilt_live_state.specs.State as parts;
 ghost use Rattle.tilt_live_state.specs.Valid.{IsStateOf};
+ghost use Rattle.tilt_run_state.specs.Valid.{FitsForm, HasOptions};
 ghost use Rattle.tilt_engine.specs.Engines.{begun_pair};
 ghost use Rattle.tilt_feed.specs.Printed.{Begun};
 ghost use Rattle.tilt_watermarks.specs.Laws.{IsKeptOf};
 
 use crate::display::Display;
 use crate::events::take_events;
-use crate::inputs::{join_inputs, kept_state, known_inputs};
+use crate::inputs::{bare_inputs, join_inputs, kept_feed, known_inputs};
 use crate::keep::Keep;
+use crate::left::Left;
 use crate::run_options::RunOptions;
 use crate::shown::{show_begun, show_final, write_header};
 use crate::state_rows::StateRows;
@@ -39,11 +44,12 @@ use std::alloc::{AllocError as OutOfMemory, Global};
 use tilt_base::Cell;
 use tilt_compiler::Accepted;
 use tilt_feed::Event;
-use tilt_feed_form::{BadFeedLine, FeedForm, FeedText, put_report};
+use tilt_feed_form::{BadFeedLine, FeedText, KeptFeed, put_report};
 use tilt_live::Live;
 use tilt_live_state::{InputState, LiveState, Progress};
 use tilt_outside::Sink;
 use tilt_port::Port;
+use tilt_run_state::RunState;
 use tilt_syntax::Query;
 use tilt_watermarks::{KeptState, Options};
 
@@ -73,7 +79,7 @@ impl LineRun {
         keep: Keep,
     ) -> Result<LineRun, OutOfMemory>
         ensures is { IfOk result (λ run. IsLineRunOf run accepted options 0 (first_state options.form (length accepted.core.inputs)) 0) }
-        ensures keeps { IfOk result (λ run. keeps_state run ≡ (needs_rows keep && is_rows options.form)) }
+        ensures keeps { IfOk result (λ run. keeps_state run ≡ needs_rows keep) }
         ensures shown { IfOk result (λ run. run.shown ≡ None) }
         ensures live { IfOk result (λ run. IsLive run.live) }
     {
@@ -96,28 +102,30 @@ impl LineRun {
         alloc: Global,
         accepted: Accepted,
         options: RunOptions,
-        state: &LiveState,
+        from: RunState,
         keep: Keep,
     ) -> Result<LineRun, OutOfMemory>
-        requires valid { IsStateOf accepted.core state.now }
-        requires same { options.form ≡ FeedForm.Rows state.now.progress.options }
+        requires valid { IsStateOf accepted.core from.state }
+        requires fits { FitsForm options.form from }
+        requires options { HasOptions options.form from }
         ensures is { IfOk result (λ run. (feeds : FeedState)
-            → IsLeft accepted.core feeds.feed state.now.progress.from state.now.progress.finished (map parts.feed_of state.now.inputs)
-            → OfRows (parts.kept_of state.now) ≡ feeds.kept
-            → IsLineRunOf run accepted options state.now.progress.lines feeds (length (printed accepted.core feeds.feed))) }
-        ensures shown { IfOk result (λ run. run.shown ≡ state.now.progress.shown) }
+            → IsLeft accepted.core feeds.feed from.state.progress.from from.state.progress.finished (map parts.feed_of from.state.inputs)
+            → kept_with options.form (kept_given from) ≡ feeds.kept
+            → IsLineRunOf run accepted options from.state.progress.lines feeds (length (printed accepted.core feeds.feed))) }
+        ensures shown { IfOk result (λ run. run.shown ≡ from.state.progress.shown) }
         ensures keeps { IfOk result (λ run. keeps_state run ≡ needs_rows keep) }
         ensures live { IfOk result (λ run. IsLive run.live) }
     {
         // That it has few inputs is known from here on.
         let _core = accepted.core();
+        let RunState { state, kept } = from;
         let progress = state.progress;
         let known = known_inputs(alloc, &state.inputs)?;
-        let kept = kept_state(alloc, progress, &state.inputs)?;
+        let kept = kept_feed(alloc, &state, kept)?;
         Ok(LineRun {
             live: Live::resume(alloc, accepted, progress.from, progress.finished, &known)?,
             rows: StateRows::of(alloc, &known, keep)?,
-            text: FeedText::resume_rows(alloc, progress.options, &kept)?,
+            text: FeedText::resume(alloc, options.form, &kept)?,
             events: Vec::new(alloc),
             number: progress.lines,
             display: options.display,
@@ -293,17 +301,22 @@ impl LineRun {
         query: Query,
         bytes: u64,
         written: u64,
-    ) -> Result<LiveState, OutOfMemory>
+    ) -> Result<RunState, OutOfMemory>
         requires live { IsLive self.old.live }
         requires keeps { keeps_state self.old ≡ true }
         ensures is { (accepted : AcceptedParts) (options : RunOptions) (number : ℕ) (state : FeedState)
-            → IsLineRunOf self.old accepted options number state (length (printed accepted.core state.feed))
-            → IsKeptOf (row_options options.form).lateness (row_kept state.kept) state.feed
+            → IsLineRunOf self.old accepted options number state (length (printed accepted.core state.feed)) → Belongs options.form state
             → IfOk result (λ left. left ≡ record {
-              query = query;
-              progress = progress_of options accepted.core state bytes number written;
-              inputs = inputs_left accepted.core state;
+              state = record {
+                query = query;
+                progress = progress_of options accepted.core state bytes number written;
+                inputs = inputs_left accepted.core state;
+              };
+              kept = readings_kept state.kept;
             }) }
+        ensures fits { (accepted : AcceptedParts) (options : RunOptions) (number : ℕ) (state : FeedState)
+            → IsLineRunOf self.old accepted options number state (length (printed accepted.core state.feed)) → Belongs options.form state
+            → IfOk result (λ left. AreResumable left.kept) }
         ensures goes_on { (accepted : AcceptedParts) (options : RunOptions) (number : ℕ) (state : FeedState)
             → IsLineRunOf self.old accepted options number state (length (printed accepted.core state.feed))
             → OnOk result (IsLineRunOf self.new accepted options number state (length (printed accepted.core state.feed))) }
@@ -312,45 +325,62 @@ impl LineRun {
         ensures live { IsLive self.new.live }
     {
         let shown = start_of(self.live.begun()?);
-        let kept = self.row_kept(alloc)?;
-        let inputs = self.inputs_left(alloc, &kept)?;
-        Ok(LiveState {
-            query,
-            progress: Progress {
-                options: self.row_options(),
-                bytes,
-                lines: self.number,
-                written,
-                from: self.live.resume_tick(),
-                shown,
-                finished: kept.finished,
-                greatest: kept.greatest,
-                latest: kept.latest,
+        let kept = self.text.kept(alloc)?;
+        let left = self.left(alloc, kept)?;
+        Ok(RunState {
+            state: LiveState {
+                query,
+                progress: Progress {
+                    options: self.watermark_options(),
+                    bytes,
+                    lines: self.number,
+                    written,
+                    from: self.live.resume_tick(),
+                    shown,
+                    finished: left.finished,
+                    greatest: left.greatest,
+                    latest: left.latest,
+                },
+                inputs: left.inputs,
             },
-            inputs,
+            kept: left.kept,
         })
     }
 
-    // What is asked of the watermarks of a feed of rows.
-    fn row_options(&self) -> Options
-        requires { is_rows (form_of self.now.text) ≡ true }
-        ensures { result ≡ row_options (form_of self.now.text) }
+    // What is asked of its watermarks.
+    fn watermark_options(&self) -> Options
+        ensures { result ≡ watermark_options (form_of self.now.text) }
     {
-        let Some(options) = self.text.row_options() else {
-            unreachable!()
-        };
-        options
+        match self.text.row_options() {
+            Some(options) => options,
+            None => NO_OPTIONS,
+        }
     }
 
-    // What they keep.
-    fn row_kept(&self, alloc: Global) -> Result<KeptState, OutOfMemory>
-        requires { is_rows (form_of self.now.text) ≡ true }
-        ensures { IfOk result (λ kept. kept ≡ row_kept (kept_of self.now.text)) }
+    // What is left of its feed, of whose text this is kept.
+    fn left(&self, alloc: Global, kept: KeptFeed) -> Result<Left, OutOfMemory>
+        requires { has_rows self.now.rows ≡ true }
+        ensures { (accepted : AcceptedParts) (form : FeedForm) (state : FeedState)
+            → IsLiveOf self.now.live accepted state.feed (length (printed accepted.core state.feed))
+            → KeepsRows self.now.rows (first_read accepted.core (tick_of_live self.now.live)) state.feed
+            → Belongs form state → kept ≡ bare_kept state.kept → IfOk result (IsLeftOf accepted.core state) }
     {
-        let Some(kept) = self.text.kept_rows(alloc)? else {
-            unreachable!()
-        };
-        Ok(kept)
+        match kept {
+            KeptFeed::Rows { kept } => Ok(Left {
+                inputs: self.inputs_left(alloc, &kept)?,
+                finished: kept.finished,
+                greatest: kept.greatest,
+                latest: kept.latest,
+                kept: None,
+            }),
+            KeptFeed::Readings { kept } => Ok(Left {
+                inputs: self.inputs_known(alloc)?,
+                finished: false,
+                greatest: None,
+                latest: None,
+                kept: Some(kept),
+            }),
+        }
     }
 
     // What is left of each input, of which the watermarks keep this. Of a finished feed no row is needed.
@@ -367,7 +397,26 @@ impl LineRun {
         let known = self.rows.inputs(alloc, self.live.first_read())?;
         join_inputs(alloc, &known, &kept.inputs)
     }
+
+    // What is left of each input of an unfinished feed, of which no update is held.
+    fn inputs_known(&self, alloc: Global) -> Result<Vec<InputState>, OutOfMemory>
+        requires { has_rows self.now.rows ≡ true }
+        ensures { (accepted : AcceptedParts) (feed : Feed)
+            → IsLiveOf self.now.live accepted feed (length (printed accepted.core feed))
+            → KeepsRows self.now.rows (first_read accepted.core (tick_of_live self.now.live)) feed → feed.finished ≡ false
+            → IfOk result (λ inputs. inputs.items ≡ each_left accepted.core feed feed.inputs (map none_held feed.inputs)) }
+    {
+        let known = self.rows.inputs(alloc, self.live.first_read())?;
+        bare_inputs(alloc, &known)
+    }
 }
+
+// No option is given.
+const NO_OPTIONS: Options = Options {
+    idle: None,
+    ahead: None,
+    lateness: None,
+};
 
 // Where something has begun, if something has.
 fn start_of(begun: Option<(i64, Cell)>) -> Option<i64>

@@ -5,7 +5,7 @@ ghost use Rattle.tilt_compiler.specs.Accepted.{AcceptedParts};
 ghost use Rattle.tilt_feed_form.specs.Said.{FeedState};
 ghost use Rattle.tilt_feed_text.specs.Split.{ended};
 ghost use Rattle.tilt_live_run.specs.Adds.{Adds};
-ghost use Rattle.tilt_live_run.specs.Left.{KeepsState, is_rows, keeps_state, state_left};
+ghost use Rattle.tilt_live_run.specs.Left.{KeepsState, keeps_state, state_left};
 ghost use Rattle.tilt_live_run.specs.Output.{first_news};
 ghost use Rattle.tilt_live_run.specs.Reported.{Reported, Reports};
 ghost use Rattle.tilt_live_run.specs.Runs.{IsPlaced, IsRunAfter, IsRunOf, IsSound, added, end_report, is_stopped};
@@ -15,6 +15,7 @@ ghost use Rattle.tilt_live_run.specs.Taken.{HasTakenLine, HasTakenPiece};
 ghost use Rattle.tilt_live_run.specs.declared.run_options.RunOptions.{RunOptions};
 ghost use Rattle.tilt_live.specs.Lives.{IsLiveOf};
 ghost use Rattle.tilt_live_state.specs.Valid.{IsStateOf};
+ghost use Rattle.tilt_run_state.specs.Valid.{FitsForm, HasOptions};
 ghost use Rattle.tilt_syntax.specs.Tree.{StatementTree};
 ghost use Rattle.tilt_text.specs.Cut.{until_at};
 
@@ -25,11 +26,10 @@ use crate::run_options::RunOptions;
 use crate::stop::Stop;
 use std::alloc::{AllocError as OutOfMemory, Global};
 use tilt_compiler::Accepted;
-use tilt_feed_form::FeedForm;
 use tilt_feed_text::append_cut;
-use tilt_live_state::LiveState;
 use tilt_outside::Sink;
 use tilt_port::Port;
+use tilt_run_state::RunState;
 use tilt_syntax::Query;
 use tilt_text::until;
 
@@ -58,7 +58,7 @@ impl LiveRun {
         ensures is { IfOk result (λ run. IsRunOf run accepted options []) }
         ensures placed { IfOk result (λ run. IsPlaced run []) }
         ensures sound { IfOk result IsSound }
-        ensures keeps { IfOk result (λ run. KeepsState run ↔ ((keep ≡ Keep.State) × (is_rows options.form ≡ true))) }
+        ensures keeps { IfOk result (λ run. KeepsState run ↔ (keep ≡ Keep.State)) }
         ensures no_bad_line { IfErr result (λ stop. stop ≡ Stop.BadLine → ⊥) }
     {
         let mut run = LineRun::new(alloc, accepted, options, keep)?;
@@ -73,17 +73,18 @@ impl LiveRun {
         })
     }
 
-    /// The run that goes on from a state, of the query of which the state is. Its feed is one of rows. It is the run that was left, after
-    /// the lines that it had taken. Nothing is written. `OutOfMemory` comes if memory runs out, and for no other reason.
+    /// The run that goes on from a state, of the query of which the state is, over a feed of the form of which it is. It is the run that
+    /// was left, after the lines that it had taken. Nothing is written. `OutOfMemory` comes if memory runs out, and for no other reason.
     pub fn resume(
         alloc: Global,
         accepted: Accepted,
         options: RunOptions,
-        state: LiveState,
+        state: RunState,
         keep: Keep,
     ) -> Result<LiveRun, OutOfMemory>
-        requires valid { IsStateOf accepted.core state }
-        requires same { options.form ≡ FeedForm.Rows state.progress.options }
+        requires valid { IsStateOf accepted.core state.state }
+        requires fits { FitsForm options.form state }
+        requires options { HasOptions options.form state }
         ensures is { IfOk result (λ run. (query : List StatementTree) (bytes : List ℕ) (written : ℕ)
             → state ≡ state_left options accepted.core query (ended bytes) written → IsRunOf run accepted options (ended bytes)) }
         ensures placed { IfOk result (λ run. (query : List StatementTree) (bytes : List ℕ) (written : ℕ)
@@ -91,12 +92,13 @@ impl LiveRun {
         ensures sound { IfOk result IsSound }
         ensures keeps { IfOk result (λ run. KeepsState run ↔ (keep ≡ Keep.State)) }
     {
-        let run = LineRun::resume(alloc, accepted, options, &state, keep)?;
+        let bytes = state.state.progress.bytes;
+        let run = LineRun::resume(alloc, accepted, options, state, keep)?;
         Ok(LiveRun {
             run,
             pending: Vec::new(alloc),
             place: Place {
-                ended: state.progress.bytes,
+                ended: bytes,
                 unended: 0,
             },
         })
@@ -258,14 +260,16 @@ impl LiveRun {
         alloc: Global,
         query: Query,
         written: u64,
-    ) -> Result<LiveState, OutOfMemory>
+    ) -> Result<RunState, OutOfMemory>
         requires sound { IsSound self.old }
         requires keeps { KeepsState self.old }
         ensures is { (accepted : AcceptedParts) (options : RunOptions) (bytes : List ℕ) → IsRunOf self.old accepted options bytes
             → IsPlaced self.old bytes
             → IfOk result (λ state. state ≡ state_left options accepted.core query (ended bytes) written) }
         ensures valid { (accepted : AcceptedParts) (options : RunOptions) (bytes : List ℕ) → IsRunOf self.old accepted options bytes
-            → IfOk result (λ state. IsStateOf accepted.core state) }
+            → IfOk result (λ state. IsStateOf accepted.core state.state) }
+        ensures fits { (accepted : AcceptedParts) (options : RunOptions) (bytes : List ℕ) → IsRunOf self.old accepted options bytes
+            → IfOk result (FitsForm options.form) }
         ensures goes_on { (accepted : AcceptedParts) (options : RunOptions) (bytes : List ℕ) → IsRunOf self.old accepted options bytes
             → OnOk result (IsRunOf self.new accepted options bytes) }
         ensures placed { (bytes : List ℕ) → IsPlaced self.old bytes → IsPlaced self.new bytes }

@@ -4,4 +4,5 @@ pub mod Decoding
 pub mod Fields
 pub mod Headings
 pub mod Kept
+mod Ranges
 pub mod Steps

@@ -1,4 +1,5 @@
 pub mod Faults
+pub mod Range
 pub mod Reading
 pub mod Spelling
 pub mod State

@@ -5,7 +5,8 @@
 //!
 //! `specs/Spelling` has the one spelling of a state (`spelled`), and `specs/Valid` says which states are valid (`IsState`). The clause of
 //! `encode` says that exactly the spelling is appended. The clauses of `decode` say that a state is read exactly if the bytes spell a valid
-//! one. A text that was cut off, or that is spelled in another way, is none. Nothing here reads or writes files.
+//! one. A text that was cut off, or that is spelled in another way, is none. `is_in_range` says whether the numbers of a state are in
+//! range. Nothing here reads or writes files.
 #![tactic(auto)]
 
 mod decoder;
@@ -15,6 +16,7 @@ mod head;
 mod inputs;
 mod progress;
 mod query;
+mod range;
 mod reader;
 mod state;
 mod valid;
@@ -23,4 +25,5 @@ pub use decoder::{Decoded, decode};
 pub use encoder::encode;
 pub use fault::StateFault;
 pub use progress::Progress;
+pub use range::is_in_range;
 pub use state::{InputState, LiveState};

@@ -1,4 +1,5 @@
 pub mod Each
+pub mod Nulls
 pub mod Only
 pub mod Places
 pub mod Said

@@ -2,20 +2,18 @@
 use Rattle.std.proofs.Common.{◌≡◌, ℕ, ℤ, ◌==◌, Bool, true, List, [], length, get_or, Option, Result, Ok, Err, sym, ap, ◌∙◌, subst, arith}
 use Rattle.std.specs.Prelude.{if◌then◌else◌}
 use Rattle.tilt_reading_lines.specs.Lines.{◌>>=◌, Gives, Said, fields_said, tick_said, values_said}
-use Rattle.tilt_reading_lines.specs.Rules.{Layout}
+use Rattle.tilt_reading_lines.specs.Rules.{Layout, RulesValue, SourceValue}
 use Rattle.tilt_reading_lines.specs.declared.fault.LineFault.{LineFault}
 use Rattle.tilt_reading_lines.specs.declared.fault.LineFault.TheVariants.{FieldCount}
 use Rattle.tilt_reading_lines.specs.declared.fault.ReadLineFault.{ReadLineFault}
 use Rattle.tilt_reading_lines.specs.declared.rules.InputReading.{InputReading}
-use Rattle.tilt_reading_lines.specs.declared.rules.Rules.{Rules}
-use Rattle.tilt_reading_lines.specs.declared.rules.Source.{Source}
 
 -- equal numbers pass the test
 equal : (a b : ℕ) → a ≡ b → (a == b) ≡ true
 equal a b same = grind arith
 
 -- a record of the right length with a time says what its values say
-values_decide : (layout : Layout) (rules : Rules) (sources : List Source) (fields : List (List ℕ)) (tick : ℤ) → length fields ≡ layout.count
+values_decide : (layout : Layout) (rules : RulesValue) (sources : List SourceValue) (fields : List (List ℕ)) (tick : ℤ) → length fields ≡ layout.count
     → Ok tick ≡ tick_said rules (get_or fields layout.time [])
     → fields_said layout rules sources fields ≡ values_said rules sources fields tick layout.values
 values_decide layout rules sources fields tick count said =
@@ -24,7 +22,7 @@ values_decide layout rules sources fields tick count said =
     ∙ ap (λ (r : Result ℤ LineFault). r >>= λ tick. values_said rules sources fields tick layout.values) (sym said)
 
 -- so what gives the one gives the other; one tick may be written in two ways
-pub values_given : (layout : Layout) (rules : Rules) (sources : List Source) (fields : List (List ℕ)) (tick t2 : ℤ) (text : List ℕ)
+pub values_given : (layout : Layout) (rules : RulesValue) (sources : List SourceValue) (fields : List (List ℕ)) (tick t2 : ℤ) (text : List ℕ)
     (result : Result (Option ℤ) ReadLineFault) (readings : List InputReading) → length fields ≡ layout.count
     → text ≡ get_or fields layout.time [] → Ok tick ≡ tick_said rules text → t2 ≡ tick
     → Gives result readings (values_said rules sources fields t2 layout.values)

@@ -4,18 +4,16 @@ use Rattle.std.specs.Global.{Vec}
 use Rattle.std.specs.Option.{ok_or}
 use Rattle.std.specs.Str.{bytes_eq}
 use Rattle.tilt_reading_lines.specs.Records.{fields_of_line}
-use Rattle.tilt_reading_lines.specs.Rules.{Layout, layout_of, name_of}
+use Rattle.tilt_reading_lines.specs.Rules.{Layout, SourceValue, layout_of}
 use Rattle.tilt_reading_lines.specs.Rules.Values.{Named, OfInputs}
+use Rattle.tilt_reading_lines.specs.Titles.{TitlesValue, TitlesValue as titles}
 use Rattle.tilt_reading_lines.specs.declared.columns.Columns.{Columns}
-use Rattle.tilt_reading_lines.specs.declared.columns.Titles.{Titles}
-use Rattle.tilt_reading_lines.specs.declared.columns.Titles.TheVariants as titles
 use Rattle.tilt_reading_lines.specs.declared.fault.Column.{Column}
 use Rattle.tilt_reading_lines.specs.declared.fault.Column.TheVariants as column
 use Rattle.tilt_reading_lines.specs.declared.fault.HeaderFault.{HeaderFault}
 use Rattle.tilt_reading_lines.specs.declared.fault.HeaderFault.TheVariants.{NotOneRecord, Missing, Doubled}
 use Rattle.tilt_reading_lines.specs.declared.fault.ReadHeaderFault.{ReadHeaderFault}
 use Rattle.tilt_reading_lines.specs.declared.fault.ReadHeaderFault.TheVariants.{BadHeader, OutOfMemory}
-use Rattle.tilt_reading_lines.specs.declared.rules.Source.{Source}
 
 infixl 10 ◌>>=◌
 -- the next step, unless there was a fault
@@ -39,10 +37,10 @@ abbrev pub column_of : Column → List ℕ → List (List ℕ) → Result ℕ He
 column_of column title fields = only_place column title fields (place_of title 0 fields)
 
 -- the places of the columns of inputs, if the first of them has this number
-abbrev pub input_columns : List (List ℕ) → ℕ → List Source → Result (List ℕ) HeaderFault
+abbrev pub input_columns : List (List ℕ) → ℕ → List SourceValue → Result (List ℕ) HeaderFault
 input_columns fields input [] = Ok []
 input_columns fields input (source ∷ sources) = do
-  first ← column_of (column.OfInput input) (name_of source) fields
+  first ← column_of (column.OfInput input) source.name fields
   others ← input_columns fields (input + 1) sources
   Ok (first ∷ others)
 
@@ -55,15 +53,15 @@ named_columns time name value fields = do
   Ok (record { count = length fields; time = time; values = Named name value })
 
 -- the columns of a header with these fields
-abbrev pub columns_said : Titles → List Source → List (List ℕ) → Result Layout HeaderFault
-columns_said (titles.Named time name value) sources fields = named_columns time.items name.items value.items fields
+abbrev pub columns_said : TitlesValue → List SourceValue → List (List ℕ) → Result Layout HeaderFault
+columns_said (titles.Named time name value) sources fields = named_columns time name value fields
 columns_said (titles.OfInputs time) sources fields = do
-  time ← column_of column.Time time.items fields
+  time ← column_of column.Time time fields
   places ← input_columns fields 0 sources
   Ok (record { count = length fields; time = time; values = OfInputs places })
 
 -- the columns of a header, of inputs in this order
-abbrev pub header_said : ℕ → Titles → List Source → List ℕ → Result Layout HeaderFault
+abbrev pub header_said : ℕ → TitlesValue → List SourceValue → List ℕ → Result Layout HeaderFault
 header_said delimiter titles sources line = ok_or (fields_of_line delimiter line) NotOneRecord >>= columns_said titles sources
 
 -- the result is what was said

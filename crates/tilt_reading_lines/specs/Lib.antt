@@ -4,3 +4,4 @@ pub mod Lines
 pub mod Records
 pub mod Rules
 pub mod Tick
+pub mod Titles

@@ -3,7 +3,6 @@
 -- and the value or the values.
 use Rattle.std.specs.Prelude.{ℕ, ◌+◌, ◌-ℤ◌, ◌==◌, ℤ, pos, Bool, ◌||◌, ◌&&◌, if◌then◌else◌, List, []}
 use Rattle.std.specs.Prelude.{◌∷◌, ◌++◌, length, get_or, Option, Some, None, Result, Ok, Err, ⊤, ◌≡◌}
-use Rattle.std.specs.Global.{Vec}
 use Rattle.std.specs.List.{list_any}
 use Rattle.std.specs.Option.{ok_or}
 use Rattle.std.specs.Str.{bytes_eq}
@@ -15,7 +14,7 @@ use Rattle.tilt_readings.specs.declared.fault.DecimalFault.{DecimalFault}
 use Rattle.tilt_readings.specs.declared.tick.TheConstants.{FARTHEST}
 use Rattle.std.specs.Prelude.{neg_ℤ}
 use Rattle.tilt_reading_lines.specs.Records.{fields_of_line}
-use Rattle.tilt_reading_lines.specs.Rules.{Layout, Values, clock_of, mark_of, moments_of, name_of, nulls_of, scale_of, skips}
+use Rattle.tilt_reading_lines.specs.Rules.{Layout, RulesValue, SourceValue, Values}
 use Rattle.tilt_reading_lines.specs.Rules.Values.{Named, OfInputs}
 use Rattle.tilt_reading_lines.specs.Tick.{tick_at}
 use Rattle.tilt_reading_lines.specs.declared.fault.LineFault.{LineFault}
@@ -25,8 +24,6 @@ use Rattle.tilt_reading_lines.specs.declared.fault.ReadLineFault.TheVariants.{Ba
 use Rattle.tilt_reading_lines.specs.declared.rules.InputReading.{InputReading}
 use Rattle.tilt_reading_lines.specs.declared.rules.Moments.{Moments}
 use Rattle.tilt_reading_lines.specs.declared.rules.Moments.TheVariants.{Dates, Numbers}
-use Rattle.tilt_reading_lines.specs.declared.rules.Rules.{Rules}
-use Rattle.tilt_reading_lines.specs.declared.rules.Source.{Source}
 
 infixl 10 ◌>>=◌
 -- the next step, unless there was a fault
@@ -54,38 +51,38 @@ moment_said Dates text = dated (date_read text)
 moment_said (Numbers unit) text = counted (bounded (neg_ℤ FARTHEST) FARTHEST (number_at 46 (nanoseconds unit) text))
 
 -- the tick that a text says
-abbrev pub tick_said : Rules → List ℕ → Result ℤ LineFault
+abbrev pub tick_said : RulesValue → List ℕ → Result ℤ LineFault
 tick_said rules text = do
-  moment ← moment_said (moments_of rules) text
-  ok_or (tick_at (clock_of rules) moment) TimeOutOfRange
+  moment ← moment_said rules.moments text
+  ok_or (tick_at rules.clock moment) TimeOutOfRange
 
 -- whether a text means that there is no value
-abbrev pub is_null : List (Vec ℕ) → List ℕ → Bool
-is_null nulls text = bytes_eq text [] || list_any (λ null. bytes_eq text null.items) nulls
+abbrev pub is_null : List (List ℕ) → List ℕ → Bool
+is_null nulls text = bytes_eq text [] || list_any (λ null. bytes_eq text null) nulls
 
 -- the value that a text is at the scale of an input
 abbrev pub scaled : ℕ → Result ℤ DecimalFault → Result (Option ℤ) LineFault
 scaled input (Ok value) = Ok (Some value)
 scaled input (Err fault) = Err (BadValue input fault)
 
-abbrev pub value_said : Rules → ℕ → ℕ → List ℕ → Result (Option ℤ) LineFault
+abbrev pub value_said : RulesValue → ℕ → ℕ → List ℕ → Result (Option ℤ) LineFault
 value_said rules input scale text =
-    if is_null (nulls_of rules) text then Ok None else scaled input (in_64_bits (number_at (mark_of rules) scale text))
+    if is_null rules.nulls text then Ok None else scaled input (in_64_bits (number_at rules.mark scale text))
 
 -- the reading of an input that a text is: none, if it has no value and such texts are skipped
-abbrev pub reading_said : Rules → ℤ → ℕ → ℕ → List ℕ → Result (Option InputReading) LineFault
+abbrev pub reading_said : RulesValue → ℤ → ℕ → ℕ → List ℕ → Result (Option InputReading) LineFault
 reading_said rules tick input scale text =
-    if skips rules && is_null (nulls_of rules) text then Ok None
+    if rules.skips_empty && is_null rules.nulls text then Ok None
     else (value_said rules input scale text >>= λ value. Ok (Some (record { input = input; tick = tick; value = value })))
 
 -- the number and the scale of the first one of inputs that has a name, if the first of them has this number
-abbrev pub source_named : List ℕ → ℕ → List Source → Option (ℕ × ℕ)
+abbrev pub source_named : List ℕ → ℕ → List SourceValue → Option (ℕ × ℕ)
 source_named name input [] = None
 source_named name input (source ∷ sources) =
-    if bytes_eq name (name_of source) then Some (input, scale_of source) else source_named name (input + 1) sources
+    if bytes_eq name source.name then Some (input, source.scale) else source_named name (input + 1) sources
 
 -- a reading of the input that was named; no input of another name is read
-abbrev pub named_reading : Rules → ℤ → List ℕ → Option (ℕ × ℕ) → Result (Option InputReading) LineFault
+abbrev pub named_reading : RulesValue → ℤ → List ℕ → Option (ℕ × ℕ) → Result (Option InputReading) LineFault
 named_reading rules tick text None = Ok None
 named_reading rules tick text (Some found) = reading_said rules tick found.0 found.1 text
 
@@ -111,35 +108,35 @@ abbrev pub only_known : ℤ → Result Said LineFault
 only_known tick = Ok (record { readings = []; known = Some tick })
 
 -- what a name and a value say
-abbrev pub named_said : Rules → List Source → ℤ → List ℕ → List ℕ → Result Said LineFault
+abbrev pub named_said : RulesValue → List SourceValue → ℤ → List ℕ → List ℕ → Result Said LineFault
 named_said rules sources tick name text =
     if bytes_eq name [] then known_said tick text >>= only_known
     else (named_reading rules tick text (source_named name 0 sources) >>= λ reading. only_readings (listed reading))
 
 -- the readings of inputs whose values are at these places, if the first of them has this number
-abbrev pub each_reading : Rules → List (List ℕ) → ℤ → ℕ → List Source → List ℕ → Result (List InputReading) LineFault
+abbrev pub each_reading : RulesValue → List (List ℕ) → ℤ → ℕ → List SourceValue → List ℕ → Result (List InputReading) LineFault
 each_reading rules fields tick input [] places = Ok []
 each_reading rules fields tick input (source ∷ sources) [] = Ok []
 each_reading rules fields tick input (source ∷ sources) (place ∷ places) = do
-  first ← reading_said rules tick input (scale_of source) (get_or fields place [])
+  first ← reading_said rules tick input source.scale (get_or fields place [])
   others ← each_reading rules fields tick (input + 1) sources places
   Ok (listed first ++ others)
 
 -- what the values of a record say
-abbrev pub values_said : Rules → List Source → List (List ℕ) → ℤ → Values → Result Said LineFault
+abbrev pub values_said : RulesValue → List SourceValue → List (List ℕ) → ℤ → Values → Result Said LineFault
 values_said rules sources fields tick (Named name value) =
     named_said rules sources tick (get_or fields name []) (get_or fields value [])
 values_said rules sources fields tick (OfInputs places) = each_reading rules fields tick 0 sources places >>= only_readings
 
 -- what the fields of a record say
-abbrev pub fields_said : Layout → Rules → List Source → List (List ℕ) → Result Said LineFault
+abbrev pub fields_said : Layout → RulesValue → List SourceValue → List (List ℕ) → Result Said LineFault
 fields_said layout rules sources fields =
     if length fields == layout.count
     then (tick_said rules (get_or fields layout.time []) >>= λ tick. values_said rules sources fields tick layout.values)
     else Err (FieldCount layout.count)
 
 -- what a line says, of inputs in columns
-abbrev pub line_said : ℕ → Layout → Rules → List Source → List ℕ → Result Said LineFault
+abbrev pub line_said : ℕ → Layout → RulesValue → List SourceValue → List ℕ → Result Said LineFault
 line_said delimiter layout rules sources line = ok_or (fields_of_line delimiter line) NotOneRecord >>= fields_said layout rules sources
 
 -- the result and the readings are what was said, unless memory ran out

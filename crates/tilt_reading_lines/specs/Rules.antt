@@ -1,36 +1,23 @@
 -- The rules of readings, their inputs and their columns, as definitions see them.
 use Rattle.std.specs.Prelude.{ℕ, Bool, List}
-use Rattle.std.specs.Global.{Vec}
 use Rattle.tilt_readings.specs.declared.tick.Clock.{Clock}
 use Rattle.tilt_reading_lines.specs.declared.columns.Columns.{Columns}
 use Rattle.tilt_reading_lines.specs.declared.columns.ValueColumns.{ValueColumns}
 use Rattle.tilt_reading_lines.specs.declared.columns.ValueColumns.TheVariants as columns
 use Rattle.tilt_reading_lines.specs.declared.rules.Moments.{Moments}
-use Rattle.tilt_reading_lines.specs.declared.rules.Rules.{Rules}
-use Rattle.tilt_reading_lines.specs.declared.rules.Source.{Source}
 
--- the name and the scale of an input
-abbrev pub name_of : Source → List ℕ
-name_of source = source.name
-
-abbrev pub scale_of : Source → ℕ
-scale_of source = source.scale
+-- an input: its name, and the scale of its values
+pub record SourceValue : Type 0 where
+  pub name : List ℕ
+  pub scale : ℕ
 
 -- how moments are written; the clock; the mark before the fraction of a decimal; the null texts; whether texts without a value are skipped
-abbrev pub moments_of : Rules → Moments
-moments_of rules = rules.moments
-
-abbrev pub clock_of : Rules → Clock
-clock_of rules = rules.clock
-
-abbrev pub mark_of : Rules → ℕ
-mark_of rules = rules.mark
-
-abbrev pub nulls_of : Rules → List (Vec ℕ)
-nulls_of rules = rules.nulls.items
-
-abbrev pub skips : Rules → Bool
-skips rules = rules.skips_empty
+pub record RulesValue : Type 0 where
+  pub moments : Moments
+  pub clock : Clock
+  pub mark : ℕ
+  pub nulls : List (List ℕ)
+  pub skips_empty : Bool
 
 -- where values are: of an input that another column names, or in a column for each input
 pub data Values : Type 0 where

@@ -6,7 +6,7 @@ ghost use Rattle.tilt_base.specs.declared.limits.TheConstants.{T};
 ghost use Rattle.tilt_reading_lines.specs.Lines.{Fills, Gives, appended, each_reading, fields_said, known_said, listed, named_said};
 ghost use Rattle.tilt_reading_lines.specs.Lines.{reading_said, source_named};
 ghost use Rattle.tilt_reading_lines.specs.Lines.{named_reading, values_said};
-ghost use Rattle.tilt_reading_lines.specs.Rules.{layout_of, scale_of, values_of};
+ghost use Rattle.tilt_reading_lines.specs.Rules.{layout_of, values_of};
 
 use crate::columns::{Columns, ValueColumns};
 use crate::fault::{LineFault, ReadLineFault};
@@ -155,7 +155,8 @@ fn read_each(
 {
     for input in 0..sources.len().min(places.len()) {
         let text = field(row, places[input]);
-        match take_reading(rules, tick, input as u32, &sources[input], text, readings) {
+        let source = &sources[input];
+        match take_reading(rules, tick, input as u32, source, text, readings) {
             Ok(()) => {}
             Err(fault) => return Err(fault),
         }
@@ -173,7 +174,7 @@ fn take_reading(
     readings: &mut Vec<InputReading>,
 ) -> Result<(), ReadLineFault>
     ensures { Fills result readings.new.items
-        (appended readings.old.items (reading_said rules.now tick input (scale_of source.now) text.now)) }
+        (appended readings.old.items (reading_said rules.now tick input source.now.scale text.now)) }
 {
     match read_reading(rules, tick, input, source.scale, text) {
         Ok(reading) => Ok(push_some(reading, readings)?),

@@ -4,6 +4,7 @@ ghost use Rattle.std.specs.Option.{ForSome};
 ghost use Rattle.csv.specs.Records.{fields_of};
 ghost use Rattle.tilt_reading_lines.specs.Header.{Finds, FindsPlaces, Gives, column_of, columns_said, input_columns};
 ghost use Rattle.tilt_reading_lines.specs.Header.{named_columns, place_of};
+ghost use Rattle.tilt_reading_lines.specs.Titles.{titles_of};
 
 use crate::columns::{Columns, Titles, ValueColumns};
 use crate::fault::{Column, HeaderFault, ReadHeaderFault};
@@ -20,7 +21,7 @@ pub(crate) fn read_columns(
     sources: &[Source],
 ) -> Result<Columns, ReadHeaderFault>
     requires { length sources.now < 2 ^ 32 }
-    ensures { Gives result (columns_said titles.now sources.now (fields_of row.now)) }
+    ensures { Gives result (columns_said (titles_of titles.now) sources.now (fields_of row.now)) }
 {
     match titles {
         Titles::Named { time, name, value } => Ok(read_named_columns(row, time, name, value)?),
@@ -69,7 +70,8 @@ fn read_places(
         let column = Column::OfInput {
             input: input as u32,
         };
-        let place = find_column(row, column, sources[input].name.bytes())?;
+        let source = &sources[input];
+        let place = find_column(row, column, source.name.bytes())?;
         push(place, &mut places)?;
     }
     Ok(places)

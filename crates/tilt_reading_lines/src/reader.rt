@@ -26,6 +26,7 @@ impl ReadingReader {
     ghost use Rattle.tilt_reading_lines.specs.Header as header;
     ghost use Rattle.tilt_reading_lines.specs.Lines.{Gives, line_said};
     ghost use Rattle.tilt_reading_lines.specs.Rules.{layout_of};
+    ghost use Rattle.tilt_reading_lines.specs.Titles.{titles_of};
 
     /// A reader of lines whose fields are separated by this byte. It takes no memory yet.
     pub fn new(alloc: Global, delimiter: u8) -> ReadingReader
@@ -46,7 +47,7 @@ impl ReadingReader {
         sources: &[Source],
     ) -> Result<Columns, ReadHeaderFault>
         requires { length sources.now < 2 ^ 32 }
-        ensures said { header.Gives result (header_said (delimiter_of self.old) titles.now sources.now line.now) }
+        ensures said { header.Gives result (header_said (delimiter_of self.old) (titles_of titles.now) sources.now line.now) }
         ensures delimiter { delimiter_of self.new ≡ delimiter_of self.old }
     {
         if !read_fields(self.alloc, self.delimiter, line, &mut self.row)? {

@@ -1,6 +1,7 @@
 // How texts become readings.
 ghost use Rattle.std.specs.Prelude.{◌<◌};
 
+use std::marker::Model;
 use tilt_base::Cell;
 use tilt_lexer::Name;
 use tilt_readings::{Clock, Unit};
@@ -24,29 +25,53 @@ pub enum Moments {
     Numbers { unit: Unit },
 }
 
-/// An input: its name, and the scale of its values.
+/// An input: its name, and the scale of its values, which is above 0. A clause sees it as plain data.
 #[derive(Debug, Drop)]
 pub struct Source {
     pub(crate) name: Name,
     pub(crate) scale: u64,
-    ghost some: { 0 < scale },
+}
+
+impl Model for Source {
+    ghost use Rattle.std.specs.Prelude.{◌<◌};
+    ghost use Rattle.tilt_reading_lines.specs.Rules.{SourceValue};
+
+    ghost Value = { SourceValue };
+
+    ghost view = { λ s. record { name = s.name; scale = s.scale } };
+
+    ghost invariant = { λ s. 0 < s.scale };
 }
 
 impl Source {
-    ghost use Rattle.std.specs.Prelude.{◌≡◌};
-    ghost use Rattle.tilt_reading_lines.specs.Rules.{name_of, scale_of};
+    ghost use Rattle.std.specs.Prelude.{◌≡◌, ◌<◌};
 
     /// The input with this name. Its values times the scale are whole numbers.
     pub fn new(name: Name, scale: u64) -> Source
         requires { 0 < scale }
-        ensures name { name_of result ≡ name }
-        ensures scale { scale_of result ≡ scale }
+        ensures name { result.name ≡ name }
+        ensures scale { result.scale ≡ scale }
     {
         Source { name, scale }
     }
+
+    /// Its name.
+    pub fn name(&self) -> &Name
+        ensures { result.now ≡ self.now.name }
+    {
+        &self.name
+    }
+
+    /// Its scale.
+    pub fn scale(&self) -> u64
+        ensures scale { result ≡ self.now.scale }
+        ensures some { 0 < result }
+    {
+        self.scale
+    }
 }
 
-/// How the texts of a line become readings.
+/// How the texts of a line become readings. A clause sees it as plain data.
 #[derive(Debug, Drop)]
 pub struct Rules {
     pub(crate) moments: Moments,
@@ -54,12 +79,27 @@ pub struct Rules {
     pub(crate) mark: u8,
     pub(crate) nulls: Vec<Vec<u8>>,
     pub(crate) skips_empty: bool,
-    ghost some: { 0 < clock.length },
+}
+
+impl Model for Rules {
+    ghost use Rattle.std.specs.Prelude.{◌<◌, map};
+    ghost use Rattle.tilt_reading_lines.specs.Rules.{RulesValue};
+
+    ghost Value = { RulesValue };
+
+    ghost view = { λ r. record {
+      moments = r.moments;
+      clock = r.clock;
+      mark = r.mark;
+      nulls = map (λ text. text.items) r.nulls.items;
+      skips_empty = r.skips_empty;
+    } };
+
+    ghost invariant = { λ r. 0 < r.clock.length };
 }
 
 impl Rules {
-    ghost use Rattle.std.specs.Prelude.{◌≡◌};
-    ghost use Rattle.tilt_reading_lines.specs.Rules.{clock_of, mark_of, moments_of, nulls_of, skips};
+    ghost use Rattle.std.specs.Prelude.{◌≡◌, ◌<◌, map};
 
     /// The rules for moments that are written in this form, by this clock. A decimal has this mark before its fraction. Each of the null
     /// texts means that there is no value, as an empty text does. If empty ones are skipped, then a text without a value is no reading;
@@ -72,11 +112,11 @@ impl Rules {
         skips_empty: bool,
     ) -> Rules
         requires { 0 < clock.length }
-        ensures moments { moments_of result ≡ moments }
-        ensures clock { clock_of result ≡ clock }
-        ensures mark { mark_of result ≡ mark }
-        ensures nulls { nulls_of result ≡ nulls.items }
-        ensures empty { skips result ≡ skips_empty }
+        ensures moments { result.moments ≡ moments }
+        ensures clock { result.clock ≡ clock }
+        ensures mark { result.mark ≡ mark }
+        ensures nulls { result.nulls ≡ map (λ text. text.items) nulls.items }
+        ensures empty { result.skips_empty ≡ skips_empty }
     {
         Rules {
             moments,
@@ -85,5 +125,41 @@ impl Rules {
             nulls,
             skips_empty,
         }
+    }
+
+    /// How moments are written.
+    pub fn moments(&self) -> Moments
+        ensures { result ≡ self.now.moments }
+    {
+        self.moments
+    }
+
+    /// How moments become ticks. Its length is above 0.
+    pub fn clock(&self) -> Clock
+        ensures clock { result ≡ self.now.clock }
+        ensures some { 0 < result.length }
+    {
+        self.clock
+    }
+
+    /// The mark before the fraction of a decimal.
+    pub fn mark(&self) -> u8
+        ensures { result ≡ self.now.mark }
+    {
+        self.mark
+    }
+
+    /// The texts that mean that there is no value, as an empty one does.
+    pub fn nulls(&self) -> &[Vec<u8>]
+        ensures { map (λ text. text.items) result.now ≡ self.now.nulls }
+    {
+        &self.nulls
+    }
+
+    /// Whether texts without a value are skipped.
+    pub fn skips_empty(&self) -> bool
+        ensures { result ≡ self.now.skips_empty }
+    {
+        self.skips_empty
     }
 }

@@ -1,5 +1,5 @@
 // From the text of a value to a reading.
-ghost use Rattle.std.specs.Prelude.{◌≡◌, ◌<◌};
+ghost use Rattle.std.specs.Prelude.{◌≡◌, ◌<◌, map};
 ghost use Rattle.std.specs.List.{list_any};
 ghost use Rattle.std.specs.Str.{bytes_eq};
 ghost use Rattle.tilt_reading_lines.specs.Lines.{is_null, reading_said, value_said};
@@ -43,7 +43,7 @@ fn read_value(rules: &Rules, input: u32, scale: u64, text: &[u8]) -> Result<Cell
 
 // Whether a text means that there is no value.
 fn is_null(nulls: &[Vec<u8>], text: &[u8]) -> bool
-    ensures { result ≡ is_null nulls.now text.now }
+    ensures { result ≡ is_null (map (λ null. null.items) nulls.now) text.now }
 {
     text.is_empty() || is_listed(nulls, text)
 }

@@ -1,9 +1,10 @@
 -- The choice, or the first option that is bad, after those that aren't.
 use Rattle.std.proofs.Common.{◌≡◌, Ok, Err, refl}
+use Rattle.tilt_input_scales.specs.Scales.{ScalesValue}
 use Rattle.tilt_reading_options.specs.Choice.{choice_said, chosen, marks_said, meaning_said, scales_said, times_said, titles_said}
 use Rattle.tilt_reading_options.specs.Results.{IsChoice, Says}
 use Rattle.tilt_reading_options.specs.Texts.{TextsValue}
-use Rattle.tilt_reading_options.specs.Values.{ScalesValue, TitlesValue, scales_of, titles_of}
+use Rattle.tilt_reading_lines.specs.Titles.{TitlesValue, titles_of}
 use Rattle.tilt_reading_options.specs.declared.fault.ChoiceFault.{ChoiceFault}
 use Rattle.tilt_reading_options.specs.declared.fault.ChoiceFault.TheVariants.{Bad, OutOfMemory}
 use Rattle.tilt_reading_options.specs.declared.parts.Marks.{Marks}
@@ -21,7 +22,7 @@ module _ (texts : TextsValue) where
     bad_times option e = rw (a, ← e) refl
 
     module _ (times : Times) (b : Ok times ≡ times_said texts) where
-      pub bad_scales : (fault : ChoiceFault) → Says scales_of (Err fault) (scales_said texts.scale) → IsChoice (Err fault) (choice_said texts)
+      pub bad_scales : (fault : ChoiceFault) → Says {A = ScalesValue} (λ scales. scales) (Err fault) (scales_said texts.scale) → IsChoice (Err fault) (choice_said texts)
       bad_scales (Bad option) e = rw (a, ← b, e) refl
       bad_scales OutOfMemory e = tt
 

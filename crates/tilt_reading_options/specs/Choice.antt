@@ -5,13 +5,15 @@ use Rattle.tilt_conventions.specs.declared.options.Convention.{Convention}
 use Rattle.tilt_conventions.specs.declared.options.Convention.TheVariants.{Event, Hold}
 use Rattle.tilt_conventions.specs.declared.options.Ties.{Ties}
 use Rattle.tilt_conventions.specs.declared.options.Ties.TheVariants as ties
+use Rattle.tilt_input_scales.specs.Scales.{ScalesValue}
 use Rattle.tilt_reading_lines.specs.declared.rules.Moments.{Moments}
 use Rattle.tilt_reading_lines.specs.declared.rules.Moments.TheVariants as moments
 use Rattle.tilt_reading_options.specs.Duration.{duration_said, ticks_said}
 use Rattle.tilt_reading_options.specs.Scales.{scales_read}
 use Rattle.tilt_reading_options.specs.Texts.{TextsValue, parts_of}
-use Rattle.tilt_reading_options.specs.Values.{ChoiceValue, ScalesValue, TitlesValue}
-use Rattle.tilt_reading_options.specs.Values.TitlesValue.{Named, OfInputs}
+use Rattle.tilt_reading_lines.specs.Titles.TitlesValue.{Named, OfInputs}
+use Rattle.tilt_reading_lines.specs.Titles.{TitlesValue}
+use Rattle.tilt_reading_options.specs.Values.{ChoiceValue}
 use Rattle.tilt_reading_options.specs.Words.{closed_named, delimiter_named, mark_named, ties_named, unit_named}
 use Rattle.tilt_reading_options.specs.declared.parts.Marks.{Marks}
 use Rattle.tilt_reading_options.specs.declared.parts.Meaning.{Meaning}

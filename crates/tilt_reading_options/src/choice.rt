@@ -7,11 +7,11 @@ use crate::form::{check_names, copy_titles, make_sources, repeat_options, split_
 use crate::parts::{
     copy_nulls, read_marks, read_meaning, read_scales_of, read_times, read_titles, skips_empty,
 };
-use crate::scales::Scales;
 use crate::texts::ReadingTexts;
 use std::alloc::Global;
 use std::marker::Model;
 use tilt_conventions::Options;
+use tilt_input_scales::Scales;
 use tilt_lexer::Name;
 use tilt_reading_lines::{Moments, Rules, Titles};
 use tilt_reading_text::ReadingForm;
@@ -36,7 +36,8 @@ impl Model for ReadingChoice {
     ghost use Rattle.tilt_conventions.specs.Laws.{HoldsATick};
     ghost use Rattle.tilt_reading_options.specs.Choice.{nulls_said};
     ghost use Rattle.tilt_reading_options.specs.Texts.{given};
-    ghost use Rattle.tilt_reading_options.specs.Values.{ChoiceValue, scales_of, titles_of};
+    ghost use Rattle.tilt_reading_lines.specs.Titles.{titles_of};
+    ghost use Rattle.tilt_reading_options.specs.Values.{ChoiceValue};
 
     ghost Value = { ChoiceValue };
 
@@ -44,7 +45,7 @@ impl Model for ReadingChoice {
       titles = titles_of c.titles;
       moments = c.moments;
       clock = c.clock;
-      scales = scales_of c.scales;
+      scales = c.scales;
       options = c.options;
       nulls = nulls_said (given c.nulls);
       skips_empty = c.skips_empty;
@@ -96,7 +97,7 @@ fn choose(alloc: Global, texts: &ReadingTexts) -> Result<ReadingChoice, ChoiceFa
 impl ReadingChoice {
     ghost use Rattle.std.specs.Prelude.{◌≡◌, ◌<◌, ◌^◌, IfOk, length};
     ghost use Rattle.tilt_reading_feed.specs.Laws.{HoldTicks};
-    ghost use Rattle.tilt_reading_options.specs.Form.{IsFormOf, missing_input};
+    ghost use Rattle.tilt_reading_options.specs.Form.{form_for, missing_input, options_for};
     ghost use Rattle.tilt_reading_options.specs.Results.{IsMissing};
 
     /// How moments become ticks.
@@ -104,6 +105,13 @@ impl ReadingChoice {
         ensures { result ≡ self.now.clock }
     {
         self.clock
+    }
+
+    /// The scales of the inputs.
+    pub fn scales(&self) -> &Scales
+        ensures { result.now ≡ self.now.scales }
+    {
+        &self.scales
     }
 
     /// The form of the lines and the options of each input, for inputs with these names in their order. They are as `ReadingText::new`
@@ -116,12 +124,13 @@ impl ReadingChoice {
     ) -> Result<(ReadingForm, Vec<Options>), FormFault>
         requires { length inputs.now < 2 ^ 32 }
         ensures missing { IsMissing result (missing_input self.now inputs.now) }
-        ensures form { IfOk result (λ made. IsFormOf self.now inputs.now made.0 made.1.items) }
-        ensures sources { IfOk result (λ made. length made.0.sources.items < 2 ^ 32) }
+        ensures form { IfOk result (λ made. made.0 ≡ form_for self.now inputs.now) }
+        ensures options { IfOk result (λ made. made.1.items ≡ options_for self.now inputs.now) }
+        ensures sources { IfOk result (λ made. length made.0.sources < 2 ^ 32) }
         ensures few { IfOk result (λ made. length made.1.items < 2 ^ 32) }
         ensures ages { IfOk result (λ made. HoldTicks made.1.items) }
     {
-        check_names(&self.scales.named, inputs)?;
+        check_names(self.scales.named(), inputs)?;
         let sources = make_sources(alloc, &self.scales, inputs)?;
         let titles = copy_titles(&self.titles)?;
         let nulls = split_nulls(alloc, &self.nulls)?;

@@ -1,26 +1,26 @@
 // The parts of a form.
-ghost use Rattle.std.specs.Prelude.{◌≡◌, ◌<◌, ◌++◌, ◌∷◌, [], IfOk, OnOk, Some, map, replicate};
+ghost use Rattle.std.specs.Prelude.{◌≡◌, ◌++◌, ◌∷◌, [], IfOk, OnOk, Some, map, replicate};
 ghost use Rattle.std.specs.List.{list_any};
 ghost use Rattle.std.specs.Str.{bytes_eq};
 ghost use Rattle.tilt_reading_feed.specs.Laws.{HoldTicks};
 ghost use Rattle.tilt_conventions.specs.Laws.{HoldsATick};
 ghost use Rattle.tilt_reading_options.specs.Choice.{nulls_said};
 ghost use Rattle.tilt_reading_options.specs.Results.{IsMissing};
-ghost use Rattle.tilt_reading_options.specs.Scales.{input_with, missing_among, scale_among};
+ghost use Rattle.tilt_reading_options.specs.Scales.{input_with, missing_among};
 ghost use Rattle.tilt_reading_options.specs.Texts.{given, parts_of};
-ghost use Rattle.tilt_reading_options.specs.Values.{items_of, named_scales_of, scales_of, source_of, titles_of};
+ghost use Rattle.tilt_reading_options.specs.Values.{items_of};
+ghost use Rattle.tilt_reading_lines.specs.Titles.{titles_of};
 
 use crate::fault::FormFault;
-use crate::scale::NamedScale;
-use crate::scales::Scales;
 use std::alloc::{AllocError as OutOfMemory, Global};
 use tilt_conventions::Options;
+use tilt_input_scales::{InputScale, Scales};
 use tilt_lexer::Name;
 use tilt_reading_lines::{Source, Titles};
 
 // Fails at the first name of a scale that is no input.
-pub(crate) fn check_names(named: &[NamedScale], inputs: &[Name]) -> Result<(), FormFault>
-    ensures { IsMissing result (missing_among (named_scales_of named.now) inputs.now) }
+pub(crate) fn check_names(named: &[InputScale], inputs: &[Name]) -> Result<(), FormFault>
+    ensures { IsMissing result (missing_among named.now inputs.now) }
 {
     for at in 0..named.len() {
         let name = &named[at].name;
@@ -57,7 +57,7 @@ pub(crate) fn make_sources(
     scales: &Scales,
     inputs: &[Name],
 ) -> Result<Vec<Source>, OutOfMemory>
-    ensures { IfOk result (λ sources. map source_of sources.items ≡ map (input_with (scales_of scales.now)) inputs.now) }
+    ensures { IfOk result (λ sources. sources.items ≡ map (input_with scales.now) inputs.now) }
 {
     let mut sources = Vec::new(alloc);
     for at in 0..inputs.len() {
@@ -68,27 +68,12 @@ pub(crate) fn make_sources(
 
 // Appends the source of an input.
 fn push_source(scales: &Scales, name: &Name, sources: &mut Vec<Source>) -> Result<(), OutOfMemory>
-    ensures { OnOk result (map source_of sources.new.items
-        ≡ map source_of sources.old.items ++ input_with (scales_of scales.now) name.now ∷ []) }
+    ensures { OnOk result (sources.new.items
+        ≡ sources.old.items ++ input_with scales.now name.now ∷ []) }
 {
-    let scale = find_scale(&scales.named, scales.others, name);
+    let scale = scales.find(name);
     sources.push(Source::new(name.copy()?, scale))?;
     Ok(())
-}
-
-// The scale of the input with a name.
-fn find_scale(named: &[NamedScale], others: u64, name: &Name) -> u64
-    requires { 0 < others }
-    ensures scale { result ≡ scale_among others (named_scales_of named.now) name.now }
-    ensures some { 0 < result }
-{
-    for at in 0..named.len() {
-        let scale = &named[at];
-        if scale.name.bytes() == name.bytes() {
-            return scale.scale;
-        }
-    }
-    others
 }
 
 // The same options for each of so many inputs.

@@ -5,16 +5,16 @@ ghost use Rattle.tilt_reading_options.specs.Choice.{closed_said, convention_said
 ghost use Rattle.tilt_reading_options.specs.Choice.{origin_said, scales_said, tick_said, ties_said, titles_said};
 ghost use Rattle.tilt_reading_options.specs.Results.{Says};
 ghost use Rattle.tilt_reading_options.specs.Texts.{given};
-ghost use Rattle.tilt_reading_options.specs.Values.{scales_of, titles_of};
+ghost use Rattle.tilt_reading_lines.specs.Titles.{titles_of};
 
 use crate::duration::{read_duration, read_ticks};
 use crate::fault::ChoiceFault;
 use crate::read_scales::read_scales;
 use crate::reading_option::ReadingOption;
-use crate::scales::Scales;
 use crate::words::{find_closed, find_delimiter, find_mark, find_ties, find_unit};
 use std::alloc::Global;
 use tilt_conventions::{Convention, Ties};
+use tilt_input_scales::Scales;
 use tilt_reading_lines::{Moments, Titles};
 use tilt_readings::{Closed, read_date};
 
@@ -88,7 +88,7 @@ pub(crate) fn read_moments(text: &Option<String>) -> Result<Moments, ReadingOpti
 
 // The scales of the inputs.
 pub(crate) fn read_scale(alloc: Global, text: &Option<String>) -> Result<Scales, ChoiceFault>
-    ensures { Says scales_of result (scales_said (given text.now)) }
+    ensures { Says (λ scales. scales) result (scales_said (given text.now)) }
 {
     match text {
         Some(text) => match read_scales(alloc, text)? {
@@ -97,10 +97,7 @@ pub(crate) fn read_scale(alloc: Global, text: &Option<String>) -> Result<Scales,
                 option: ReadingOption::Scale,
             }),
         },
-        None => Ok(Scales {
-            named: Vec::new(alloc),
-            others: 1,
-        }),
+        None => Ok(Scales::new(alloc, 1)),
     }
 }
 

@@ -15,8 +15,6 @@ mod given;
 mod parts;
 mod read_scales;
 mod reading_option;
-mod scale;
-mod scales;
 mod texts;
 mod whole;
 mod words;

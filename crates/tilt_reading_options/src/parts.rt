@@ -4,7 +4,7 @@ ghost use Rattle.tilt_conventions.specs.Laws.{HoldsATick};
 ghost use Rattle.tilt_reading_options.specs.Choice.{marks_said, meaning_said, nulls_said, scales_said, times_said, titles_said};
 ghost use Rattle.tilt_reading_options.specs.Results.{Says};
 ghost use Rattle.tilt_reading_options.specs.Texts.{given};
-ghost use Rattle.tilt_reading_options.specs.Values.{scales_of, titles_of};
+ghost use Rattle.tilt_reading_lines.specs.Titles.{titles_of};
 
 use crate::fault::ChoiceFault;
 use crate::given::{
@@ -12,10 +12,10 @@ use crate::given::{
     read_origin, read_scale, read_tick, read_ties,
 };
 use crate::reading_option::ReadingOption;
-use crate::scales::Scales;
 use crate::texts::ReadingTexts;
 use std::alloc::{AllocError as OutOfMemory, Global};
 use tilt_conventions::{Convention, Ties};
+use tilt_input_scales::Scales;
 use tilt_reading_lines::{Moments, Titles};
 use tilt_readings::Closed;
 
@@ -66,7 +66,7 @@ pub(crate) fn read_times(texts: &ReadingTexts) -> Result<Times, ReadingOption>
 
 // The scales of the inputs.
 pub(crate) fn read_scales_of(alloc: Global, texts: &ReadingTexts) -> Result<Scales, ChoiceFault>
-    ensures { Says scales_of result (scales_said texts.now.scale) }
+    ensures { Says (λ scales. scales) result (scales_said texts.now.scale) }
 {
     read_scale(alloc, &texts.scale)
 }

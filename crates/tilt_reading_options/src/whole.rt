@@ -1,5 +1,5 @@
 // Whole numbers.
-ghost use Rattle.std.specs.Prelude.{◌≡◌, ◌<◌, ◌^◌};
+ghost use Rattle.std.specs.Prelude.{◌≡◌, ◌<◌, ◌≤◌, ◌^◌};
 ghost use Rattle.std.specs.Option.{ForSome};
 ghost use Rattle.tilt_reading_options.specs.Duration.{whole_said};
 
@@ -10,6 +10,7 @@ pub(crate) fn read_whole(text: &[u8], greatest: u64) -> Option<u64>
     requires { greatest < 2 ^ 63 }
     ensures value { result ≡ whole_said greatest text.now }
     ensures some { ForSome result (λ number. 0 < number) }
+    ensures most { ForSome result (λ number. number ≤ greatest) }
 {
     let [first, ..] = text else {
         return None;

@@ -1,3 +1,4 @@
+pub mod Form
 pub mod Kept
 pub mod Machine
 pub mod Report

@@ -3,11 +3,11 @@ use Rattle.std.specs.Prelude.{option_map}
 use Rattle.tilt_reading_feed.specs.Machine.{feed_kept}
 use Rattle.tilt_reading_lines.specs.Rules.{layout_of}
 use Rattle.tilt_reading_text.specs.Said.{TextKept}
-use Rattle.tilt_reading_text.specs.declared.form.ReadingForm.{ReadingForm}
+use Rattle.tilt_reading_text.specs.Form.{FormValue}
 use Rattle.tilt_reading_text.specs.declared.reading_text.ReadingText.{ReadingText}
 
 -- how its lines are written
-abbrev pub form_of : ReadingText → ReadingForm
+abbrev pub form_of : ReadingText → FormValue
 form_of text = text.form
 
 -- what it keeps

@@ -17,7 +17,7 @@ use Rattle.tilt_reading_lines.specs.declared.fault.HeaderFault.{HeaderFault}
 use Rattle.tilt_reading_lines.specs.declared.fault.LineFault.{LineFault}
 use Rattle.tilt_reading_text.specs.declared.bad_reading_line.BadReadingLine.{BadReadingLine}
 use Rattle.tilt_reading_text.specs.declared.bad_reading_line.BadReadingLine.TheVariants as bad
-use Rattle.tilt_reading_text.specs.declared.form.ReadingForm.{ReadingForm}
+use Rattle.tilt_reading_text.specs.Form.{FormValue}
 
 -- what a line is: blank, the header with its columns, or readings
 pub data Content : Type 0 where
@@ -35,12 +35,12 @@ readings_or_bad (Ok said) = Ok (Readings said)
 readings_or_bad (Err cause) = Err (bad.Unreadable cause)
 
 -- what a line is that isn't blank: the first one is the header, and the others have its columns
-abbrev pub record_content : ReadingForm → Option Layout → List ℕ → Result Content BadReadingLine
-record_content form None line = header_or_bad (header_said form.delimiter form.titles form.sources.items line)
-record_content form (Some layout) line = readings_or_bad (line_said form.delimiter layout form.rules form.sources.items line)
+abbrev pub record_content : FormValue → Option Layout → List ℕ → Result Content BadReadingLine
+record_content form None line = header_or_bad (header_said form.delimiter form.titles form.sources line)
+record_content form (Some layout) line = readings_or_bad (line_said form.delimiter layout form.rules form.sources line)
 
 -- what a line is, or why it can't be read
-abbrev pub content : ReadingForm → Option Layout → List ℕ → Result Content BadReadingLine
+abbrev pub content : FormValue → Option Layout → List ℕ → Result Content BadReadingLine
 content form layout line =
     if nat_lt LINE (length line) then Err bad.TooLong
     else if is_blank line then Ok Blank
@@ -86,12 +86,12 @@ abbrev pub text_step : Option Layout → FeedStep → TextStep
 text_step layout step = record { kept = record { layout = layout; feed = step.kept }; events = step.events }
 
 -- what a line does
-abbrev pub line_step : ReadingForm → List ℕ → TextKept → TextStep
+abbrev pub line_step : FormValue → List ℕ → TextKept → TextStep
 line_step form line kept =
     text_step (layout_after kept.layout (content form kept.layout line)) (feed_step (content form kept.layout line) kept.feed)
 
 -- why a line is bad, if it is
-abbrev pub line_fault : ReadingForm → TextKept → List ℕ → Option BadReadingLine
+abbrev pub line_fault : FormValue → TextKept → List ℕ → Option BadReadingLine
 line_fault form kept line = content_fault kept.feed (content form kept.layout line)
 
 -- what the end does
@@ -117,26 +117,26 @@ abbrev pub after_step : TextStep → Feed → TextState
 after_step step feed = record { kept = step.kept; feed = after_all step.events feed }
 
 -- where it is after a line
-abbrev pub after_line : ReadingForm → List ℕ → TextState → TextState
+abbrev pub after_line : FormValue → List ℕ → TextState → TextState
 after_line form line state = after_step (line_step form line state.kept) state.feed
 
 -- where it is after lines
-abbrev pub after_lines : ReadingForm → TextState → List (List ℕ) → TextState
+abbrev pub after_lines : FormValue → TextState → List (List ℕ) → TextState
 after_lines form state [] = state
 after_lines form state (line ∷ lines) = after_lines form (after_line form line state) lines
 
 -- whether a line ends the feed
-abbrev pub stops : Bool → ReadingForm → TextState → List ℕ → Bool
+abbrev pub stops : Bool → FormValue → TextState → List ℕ → Bool
 stops strict form state line = ends strict state.kept.layout (line_fault form state.kept line)
 
 -- the lines that are taken after some: all, or those before the first one that ends the feed
-abbrev pub taken_from : Bool → ReadingForm → TextState → List (List ℕ) → List (List ℕ)
+abbrev pub taken_from : Bool → FormValue → TextState → List (List ℕ) → List (List ℕ)
 taken_from strict form state [] = []
 taken_from strict form state (line ∷ lines) =
     if stops strict form state line then [] else line ∷ taken_from strict form (after_line form line state) lines
 
 -- whether one of the lines ends the feed
-abbrev pub stop_among : Bool → ReadingForm → TextState → List (List ℕ) → Bool
+abbrev pub stop_among : Bool → FormValue → TextState → List (List ℕ) → Bool
 stop_among strict form state [] = false
 stop_among strict form state (line ∷ lines) =
     stops strict form state line || stop_among strict form (after_line form line state) lines
@@ -154,12 +154,12 @@ is_lost layout (Ok content) = false
 is_lost layout (Err why) = is_none layout
 
 -- what lines say; without a header they say nothing
-abbrev pub lines_said : ReadingForm → Option Layout → List (List ℕ) → List Said
+abbrev pub lines_said : FormValue → Option Layout → List (List ℕ) → List Said
 lines_said form layout [] = []
 lines_said form layout (line ∷ lines) =
     if is_lost layout (content form layout line) then []
     else said_by (content form layout line) ++ lines_said form (layout_after layout (content form layout line)) lines
 
 -- the events of a feed: those of what its lines say, for inputs whose readings mean this
-abbrev pub events_of : ReadingForm → List Options → List (List ℕ) → List Event
+abbrev pub events_of : FormValue → List Options → List (List ℕ) → List Event
 events_of form options lines = events_now options (lines_said form None lines)

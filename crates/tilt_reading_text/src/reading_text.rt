@@ -21,7 +21,7 @@ pub struct ReadingText {
     // The columns of the header, if it has come.
     columns: Option<Columns>,
     taker: Taker,
-    ghost few: { length form.sources.items < 2 ^ 32 },
+    ghost few: { length form.sources < 2 ^ 32 },
     ghost delimiter: { delimiter_of taker.reader ≡ form.delimiter },
 }
 
@@ -45,7 +45,7 @@ impl ReadingText {
         form: ReadingForm,
         options: &[Options],
     ) -> Result<ReadingText, OutOfMemory>
-        requires sources { length form.sources.items < 2 ^ 32 }
+        requires sources { length form.sources < 2 ^ 32 }
         requires few { length options.now < 2 ^ 32 }
         requires ages { HoldTicks options.now }
         ensures form { IfOk result (λ text. form_of text ≡ form) }
@@ -68,7 +68,7 @@ impl ReadingText {
         options: &[Options],
         kept: &KeptText,
     ) -> Result<ReadingText, OutOfMemory>
-        requires sources { length form.sources.items < 2 ^ 32 }
+        requires sources { length form.sources < 2 ^ 32 }
         requires few { length options.now < 2 ^ 32 }
         requires ages { HoldTicks options.now }
         requires each { length kept.now.readings.inputs ≡ length options.now }

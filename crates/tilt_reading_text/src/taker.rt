@@ -46,10 +46,10 @@ impl Taker {
         form: &ReadingForm,
         line: &[u8],
     ) -> Result<Columns, TakeLineError>
-        requires few { length form.now.sources.items < 2 ^ 32 }
+        requires few { length form.now.sources < 2 ^ 32 }
         requires delimiter { delimiter_of self.old.reader ≡ form.now.delimiter }
         ensures header { IsHeader result
-            (header_or_bad (header_said form.now.delimiter form.now.titles form.now.sources.items line.now)) }
+            (header_or_bad (header_said form.now.delimiter form.now.titles form.now.sources line.now)) }
         ensures delimiter { delimiter_of self.new.reader ≡ form.now.delimiter }
         ensures feed { feed_kept self.new.feed ≡ feed_kept self.old.feed }
     {
@@ -70,15 +70,15 @@ impl Taker {
         line: &[u8],
         events: &mut Vec<Event>,
     ) -> Result<(), TakeLineError>
-        requires few { length form.now.sources.items < 2 ^ 32 }
+        requires few { length form.now.sources < 2 ^ 32 }
         requires delimiter { delimiter_of self.old.reader ≡ form.now.delimiter }
         ensures result { IsTaken result (content_fault (feed_kept self.old.feed)
-            (readings_or_bad (line_said form.now.delimiter (layout_of columns.now) form.now.rules form.now.sources.items line.now))) }
+            (readings_or_bad (line_said form.now.delimiter (layout_of columns.now) form.now.rules form.now.sources line.now))) }
         ensures feed { feed_kept self.new.feed ≡ (if is_ok result then (feed_step
-            (readings_or_bad (line_said form.now.delimiter (layout_of columns.now) form.now.rules form.now.sources.items line.now))
+            (readings_or_bad (line_said form.now.delimiter (layout_of columns.now) form.now.rules form.now.sources line.now))
             (feed_kept self.old.feed)).kept else feed_kept self.old.feed) }
         ensures events { events.new.items ≡ (if is_ok result then events.old.items ++ (feed_step
-            (readings_or_bad (line_said form.now.delimiter (layout_of columns.now) form.now.rules form.now.sources.items line.now))
+            (readings_or_bad (line_said form.now.delimiter (layout_of columns.now) form.now.rules form.now.sources line.now))
             (feed_kept self.old.feed)).events else events.old.items) }
         ensures delimiter { delimiter_of self.new.reader ≡ form.now.delimiter }
     {

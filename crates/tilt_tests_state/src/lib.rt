@@ -4,4 +4,6 @@
 #[cfg(test)]
 mod readings;
 #[cfg(test)]
+mod runs;
+#[cfg(test)]
 mod texts;

@@ -95,7 +95,7 @@ def wrong_on_device(program: str, top: str, feed: str, whole: str) -> str | None
     found, cut, after = (files_in(os.path.join(top, name)) for name in ("found", "cut", "after"))
     front = feed[: feed.rfind("\n", 0, position) + 1]
     output = subprocess.run([program, QUERY_FILE], cwd=top, input=front, capture_output=True, text=True, timeout=SECONDS).stdout
-    length = int(found["state"].split("\n")[0])
+    length = int(found["state"].split("\n")[1])
     if not 0 < position < len(feed) or found["output.csv"][:length] != output or cut["output.csv"] != output:
         return (
             f"position {position}, output of {length} bytes, of {len(found['output.csv'])} there, and of {len(cut['output.csv'])} after it"

@@ -197,7 +197,7 @@ def is_commit(clean: Clean, commit: int, files: dict[str, str]) -> bool:
     """Whether the files have this commit: the output up to the length in the state. What is behind it is of the output too, unless the run
     never got to cut the output that it found."""
     output, state = files.get("output.csv", ""), files.get("state", "")
-    length = int(state.split("\n")[0]) if state else 0
+    length = int(state.split("\n")[1]) if state else 0
     untouched = bool(clean.before) and output == clean.before["output.csv"]
     return output[:length] == clean.output(commit) and (untouched or clean.out[-1].startswith(output))
 

@@ -1,7 +1,6 @@
 use Rattle.std.proofs.Common.{◌∙◌, ap, refl}
 use Rattle.std.specs.Prelude.{option_map}
 use Rattle.tilt_live_app.proofs.Ending.{words-lived}
-use Rattle.tilt_live_app.proofs.OfRows.{of-rows}
 use Rattle.tilt_live_app.specs.Arguments.{choice_value, command_value}
 use Rattle.tilt_live_app.specs.Lived.{done, done_in}
 use Rattle.tilt_live_app.proofs.command.live.Goals as goal
@@ -19,12 +18,6 @@ returns-in-None-clause-is g c =
 pub returns-clause-is : goal.returns-clause-is
 returns-clause-is g c =
     done_in (command_value c.in-Ok.command) (choice_value c.in-Some.choice) c.in-Ok.ensures.is (ap (option_map choice_value) c.in-Some.is) c.obey_in.ensures.is
-
-pub obey-requires-clause-of_rows : goal.obey-requires-clause-of_rows
-obey-requires-clause-of_rows g c = of-rows _ (command_value c.in-Ok.command) c.in-Ok.ensures.is
-
-pub obey_in-requires-clause-of_rows : goal.obey_in-requires-clause-of_rows
-obey_in-requires-clause-of_rows g c = of-rows _ (command_value c.in-Ok.command) c.in-Ok.ensures.is
 
 pub obey_in-requires-clause-chosen : goal.obey_in-requires-clause-chosen
 obey_in-requires-clause-chosen g c = ap (option_map choice_value) c.in-Some.is

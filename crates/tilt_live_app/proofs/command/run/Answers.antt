@@ -1,7 +1,6 @@
 use Rattle.std.proofs.Common.{ℕ, List, Option, Some, String, Global, refl, ap, sym, ◌∙◌, option_map, string_bytes}
 use Rattle.std.proofs.lemmas.Option.{none-some}
 use Rattle.tilt_live_app.proofs.Ending.{kept-first, rest-first, run-halted, run-kept, run-unkept, takes-first}
-use Rattle.tilt_live_app.proofs.OfRows.{are-rows}
 use Rattle.tilt_live_app.specs.Arguments.{command_value}
 use Rattle.tilt_live_app.proofs.command.run.Goals as goal
 
@@ -15,23 +14,39 @@ pub returns-in-Err-serve-clause-is : goal.returns-in-Err-serve-clause-is
 returns-in-Err-serve-clause-is g c =
     let job = c.in-Ok.job in
     run-halted _ _ _ _ _ _ _ (command_value c.args.command.now) _ _
-    (record { query = job.query; core = job.accepted.core; taken = c.in-Ok.ensures.taken; options = job.options; asked = c.in-Ok.ensures.asked; from = job.from; goes_on = c.in-Ok.ensures.goes_on })
+    (record {
+      query = job.query;
+      core = job.accepted.core;
+      taken = c.in-Ok.ensures.taken;
+      scaled = c.in-Ok.ensures.scaled;
+      options = job.options;
+      asked = c.in-Ok.ensures.asked;
+      from = job.from;
+      goes_on = c.in-Ok.ensures.goes_on;
+    })
     c.in-Err-serve.halt c.in-Err-serve.ensures.served c.in-Err-serve.ensures.handed_on
 
 pub returns-in-None-clause-is : goal.returns-in-None-clause-is
 returns-in-None-clause-is g c =
     let job = c.in-Ok.job in
     run-unkept _ _ _ _ _ _ _ (command_value c.args.command.now) _ _
-    (record { query = job.query; core = job.accepted.core; taken = c.in-Ok.ensures.taken; options = job.options; asked = c.in-Ok.ensures.asked; from = job.from; goes_on = c.in-Ok.ensures.goes_on })
+    (record {
+      query = job.query;
+      core = job.accepted.core;
+      taken = c.in-Ok.ensures.taken;
+      scaled = c.in-Ok.ensures.scaled;
+      options = job.options;
+      asked = c.in-Ok.ensures.asked;
+      from = job.from;
+      goes_on = c.in-Ok.ensures.goes_on;
+    })
     c.in-Ok-serve.served.run job.accepted refl c.in-Ok-serve.ensures.handed_on c.in-Ok-serve.ensures.served (ap file_bytes c.in-None.is)
 
 pub save-requires-clause-keeps : goal.save-requires-clause-keeps
 save-requires-clause-keeps g c =
     let name = string_bytes c.in-Some.name in
-    let job = c.in-Ok.job in
     let save = ap file_bytes c.in-Some.is in
     c.in-Ok-serve.ensures.keeps (c.keep_for-keep.ensures name save)
-    (are-rows (command_value c.args.command.now) job.accepted.core.inputs job.options c.in-Ok.ensures.asked (c.requires.of_rows.save name save))
 
 pub save-requires-clause-room : goal.save-requires-clause-room
 save-requires-clause-room g c = λ n.
@@ -43,11 +58,20 @@ returns-in-Some-clause-is g c =
     let served = c.in-Ok-serve.served in
     let name = c.as_str.result.now in
     run-kept _ _ _ _ _ _ _ (command_value c.args.command.now) _ _
-    (record { query = job.query; core = job.accepted.core; taken = c.in-Ok.ensures.taken; options = job.options; asked = c.in-Ok.ensures.asked; from = job.from; goes_on = c.in-Ok.ensures.goes_on })
-    served.run job.accepted refl c.in-Ok-serve.ensures.handed_on c.in-Ok-serve.ensures.served c.in-Ok.ensures.accepted.0 c.in-Ok.ensures.accepted.1
+    (record {
+      query = job.query;
+      core = job.accepted.core;
+      taken = c.in-Ok.ensures.taken;
+      scaled = c.in-Ok.ensures.scaled;
+      options = job.options;
+      asked = c.in-Ok.ensures.asked;
+      from = job.from;
+      goes_on = c.in-Ok.ensures.goes_on;
+    })
+    served.run job.accepted refl c.in-Ok-serve.ensures.handed_on c.in-Ok-serve.ensures.served c.in-Ok.ensures.accepted.0 c.in-Ok.ensures.accepted.1 job.opening.items c.in-Ok.ensures.opening
     served.written c.in-Ok-serve.ensures.written name (ap file_bytes c.in-Some.is ∙ ap Some (sym c.as_str.ensures.value)) c.save.result
-    (rw c.in-Ok-serve.ensures.query at (kept-first g.S.Shelf.tells g.S.Shelf.files g.S.Shelf.read_faults g.S.Shelf.save_faults g.S.Shelf.takes c.args.shelf.now
-    c.load_job.new.shelf c.save.new.shelf c.in-Ok.ensures.rest served.run served.query served.written name c.save.result c.save.ensures.kept))
+    (rw (c.in-Ok-serve.ensures.query, c.in-Ok-serve.ensures.opening) at (kept-first g.S.Shelf.tells g.S.Shelf.files g.S.Shelf.read_faults g.S.Shelf.save_faults g.S.Shelf.takes c.args.shelf.now
+    c.load_job.new.shelf c.save.new.shelf c.in-Ok.ensures.rest served.run served.query served.opening.items served.written name c.save.result c.save.ensures.kept))
 
 pub returns-in-Some-clause-rest : goal.returns-in-Some-clause-rest
 returns-in-Some-clause-rest g c =

@@ -15,7 +15,16 @@ returns-in-Err-enter-clause-is g c =
     let end = rw c.as_str-name.ensures.value at c.end_of_entering.ensures in
     rw (c.without_folder-in-Err-enter.ensures.status ∙ (c.report_end.ensures.status ∙ ap status_of_end end), c.without_folder-in-Err-enter.ensures.folder)
     (unentered c.in-Err-enter.error
-    (record { query = job.query; core = job.accepted.core; taken = c.in-Ok.ensures.taken; options = job.options; asked = c.in-Ok.ensures.asked; from = job.from; goes_on = c.in-Ok.ensures.goes_on })
+    (record {
+      query = job.query;
+      core = job.accepted.core;
+      taken = c.in-Ok.ensures.taken;
+      scaled = c.in-Ok.ensures.scaled;
+      options = job.options;
+      asked = c.in-Ok.ensures.asked;
+      from = job.from;
+      goes_on = c.in-Ok.ensures.goes_on;
+    })
     refl
     (λ same. c.in-Err-enter.ensures.failed (ap Err same)) (rw (c.as_str-name.ensures.value, end) at c.report_end.ensures.line))
 
@@ -23,14 +32,32 @@ pub returns-in-Position-clause-is : goal.returns-in-Position-clause-is
 returns-in-Position-clause-is g c =
     let job = c.in-Ok.job in
     in_position
-    (record { query = job.query; core = job.accepted.core; taken = c.in-Ok.ensures.taken; options = job.options; asked = c.in-Ok.ensures.asked; from = job.from; goes_on = c.in-Ok.ensures.goes_on })
-    c.new-recipe.result c.in-Ok-enter.folder (feed-of _ _ _ job.accepted _ (c.requires.of_rows.folder _ c.requires.chosen) refl c.new-recipe.ensures)
+    (record {
+      query = job.query;
+      core = job.accepted.core;
+      taken = c.in-Ok.ensures.taken;
+      scaled = c.in-Ok.ensures.scaled;
+      options = job.options;
+      asked = c.in-Ok.ensures.asked;
+      from = job.from;
+      goes_on = c.in-Ok.ensures.goes_on;
+    })
+    c.new-recipe.result c.in-Ok-enter.folder (feed-of _ _ _ job.accepted _ refl c.new-recipe.ensures)
     (rw c.as_str-name.ensures.value at c.in-Ok-enter.ensures.gives) c.in-Position.is (rw c.as_str-name.ensures.value at c.print_position.ensures.counted)
 
 pub returns-clause-is : goal.returns-clause-is
 returns-clause-is g c =
     let job = c.in-Ok.job in
     in_feed
-    (record { query = job.query; core = job.accepted.core; taken = c.in-Ok.ensures.taken; options = job.options; asked = c.in-Ok.ensures.asked; from = job.from; goes_on = c.in-Ok.ensures.goes_on })
-    c.new-recipe.result c.in-Ok-enter.folder c.in-Serve.plan (feed-of _ _ _ job.accepted _ (c.requires.of_rows.folder _ c.requires.chosen) refl c.new-recipe.ensures)
+    (record {
+      query = job.query;
+      core = job.accepted.core;
+      taken = c.in-Ok.ensures.taken;
+      scaled = c.in-Ok.ensures.scaled;
+      options = job.options;
+      asked = c.in-Ok.ensures.asked;
+      from = job.from;
+      goes_on = c.in-Ok.ensures.goes_on;
+    })
+    c.new-recipe.result c.in-Ok-enter.folder c.in-Serve.plan (feed-of _ _ _ job.accepted _ refl c.new-recipe.ensures)
     (rw c.as_str-name.ensures.value at c.in-Ok-enter.ensures.gives) c.in-Serve.is (rw c.as_str-name.ensures.value at c.serve_in.ensures.served)

@@ -2,10 +2,11 @@ use Rattle.std.proofs.Common.{◌∙◌, ap, arith, sym}
 use Rattle.std.proofs.lemmas.Result.{err_from_is_err_and}
 use Rattle.tilt_core.specs.Core.{CoreParts}
 use Rattle.tilt_live_app.proofs.Living.{accepted-query, load-unbegun, scales-unbegun, state-unbegun}
-use Rattle.tilt_live_app.proofs.OfRows.{fit-asked}
 use Rattle.tilt_live_app.specs.Arguments.{command_value}
-use Rattle.tilt_live_app.specs.Asked.{IsAsked}
+use Rattle.tilt_live_app.specs.Asked.{IsScaled, form_asked, options_asked}
 use Rattle.tilt_live_app.specs.BeginReport.{begin_report}
+use Rattle.tilt_live_app.specs.Begun.{no_memory}
+use Rattle.tilt_live_run.specs.declared.run_options.RunOptions.{RunOptions}
 use Rattle.tilt_report.specs.Report.{report_of}
 use Rattle.tilt_types.proofs.CheckedCore.{checked-core}
 use Rattle.tilt_live_app.proofs.job.load_job.Goals as goal
@@ -33,11 +34,18 @@ pub returns-in_err-from-clause-fault : goal.returns-in_err-from-clause-fault
 returns-in_err-from-clause-fault g c =
     let p = err_from_is_err_and c.from_residual-in_err-from.result c.from_residual-in_err-from.ensures.1 in
     let loaded = c.in_ok-loaded.ensures in
-    let fault = c.in_err-from.ensures.fault in
+    let inputs = c.inputs-inputs.ensures.names ∙ ap (λ (k : CoreParts). k.inputs) c.core.ensures.value in
+    let form = ap (λ (o : RunOptions). o.form) (rw inputs at c.in_ok-options.ensures.asked) in
+    let fault = rw form at c.in_err-from.ensures.fault in
     rw (p.1, p.2) (state-unbegun g.S.Shelf.tells g.S.Shelf.files g.S.Shelf.read_faults g.S.Shelf.save_faults g.S.Shelf.takes
     (command_value c.args.command.now) c.args.shelf.now c.load_query.new.shelf c.load_from.new.shelf fault.0 c.in_ok-loaded.loaded.query c.in_ok-loaded.loaded.accepted.core
     loaded.rest fault.1
     (record { taken = loaded.taken; has = loaded.query }) (report_of c.in_err-from.field-0.0) fault.2)
+
+pub returns-in_err-opening-clause-fault : goal.returns-in_err-opening-clause-fault
+returns-in_err-opening-clause-fault g c =
+    let p = err_from_is_err_and c.from_residual-in_err-opening.result c.from_residual-in_err-opening.ensures.1 in
+    rw (p.1, p.2, c.in_err-opening.ensures.fault) no_memory
 
 pub returns-clause-taken : goal.returns-clause-taken
 returns-clause-taken g c = record { taken = c.in_ok-loaded.ensures.taken; has = c.in_ok-loaded.ensures.query }
@@ -46,6 +54,11 @@ pub returns-clause-asked : goal.returns-clause-asked
 returns-clause-asked g c =
     let inputs = c.inputs-inputs.ensures.names ∙ ap (λ (k : CoreParts). k.inputs) c.core.ensures.value in
     rw inputs at c.in_ok-options.ensures.asked
+
+pub returns-clause-scaled : goal.returns-clause-scaled
+returns-clause-scaled g c =
+    let inputs = c.inputs-inputs.ensures.names ∙ ap (λ (k : CoreParts). k.inputs) c.core.ensures.value in
+    rw inputs at c.in_ok-options.ensures.scaled
 
 pub returns-clause-goes_on : goal.returns-clause-goes_on
 returns-clause-goes_on g c = rw c.in_ok-loaded.ensures.rest.same_files at c.in_ok-from.ensures.goes_on
@@ -60,7 +73,4 @@ returns-clause-accepted g c =
 pub returns-clause-fit : goal.returns-clause-fit
 returns-clause-fit g c =
     let loaded = c.in_ok-loaded.loaded in
-    let inputs = c.inputs-inputs.ensures.names ∙ ap (λ (k : CoreParts). k.inputs) c.core.ensures.value in
-    fit-asked (command_value c.args.command.now) loaded.accepted.core.inputs c.in_ok-options.options (rw inputs at c.in_ok-options.ensures.asked) loaded.accepted.core _ _ _ _
-    c.requires.of_rows c.in_ok-from.ensures.goes_on
-    (rw (checked-core loaded.query loaded.accepted.core c.in_ok-loaded.ensures.accepted) at c.in_ok-from.ensures.fit)
+    rw (checked-core loaded.query loaded.accepted.core c.in_ok-loaded.ensures.accepted) at c.in_ok-from.ensures.fit

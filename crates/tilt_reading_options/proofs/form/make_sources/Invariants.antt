@@ -1,7 +1,6 @@
 use Rattle.std.proofs.Common.{◌≡◌, map, take}
 use Rattle.tilt_reading_options.specs.Scales.{input_with}
-use Rattle.tilt_reading_options.specs.Values.{scales_of, source_of}
 use Rattle.tilt_reading_options.proofs.form.make_sources.Given as goal
 
 abbrev pub invariant-loop-at : goal.invariant-loop-at
-invariant-loop-at l = map source_of l.sources.items ≡ map (input_with (scales_of l.scales)) (take l.at l.inputs)
+invariant-loop-at l = l.sources.items ≡ map (input_with l.scales) (take l.at l.inputs)

@@ -1,10 +1,9 @@
 use Rattle.std.specs.Str.Iter.{split_text, split_has_more, split_pattern}
-use Rattle.std.proofs.Common.{length, lit<, sym, ap, ◌∙◌}
+use Rattle.std.proofs.Common.{Some, length, lit<, refl, ap, ◌∙◌}
 use Rattle.std.proofs.lemmas.Iterator.Consumers.{YieldsList-turn, YieldsList-end}
 use Rattle.std.proofs.lemmas.Iterator.Splits.{YieldsList-from_str_split}
 use Rattle.std.proofs.lemmas.List.{length_push}
 use Rattle.tilt_reading_options.specs.Texts.{parts_of}
-use Rattle.tilt_reading_options.specs.Values.{named_scales_of}
 use Rattle.tilt_reading_options.proofs.Splitting.{part_bad, part_taken, parts_read}
 use Rattle.tilt_reading_options.proofs.read_scales.read_parts.Goals as goal
 
@@ -14,8 +13,8 @@ returns-then-not-branch c =
     let split = c.split-part-items.ensures in
     let all = YieldsList-from_str_split 44 c.args.text.now (lit< tt) (ap split_text e ∙ split.text) (ap split_has_more e ∙ split.has_more) (ap split_pattern e ∙ split.pattern) in
     let turn = YieldsList-turn all c.loop-part.yielded _ c.loop-part.yielded_by _ _ c.in-Some.part c.in-Some.is c.next.ensures.steps in
-    sym (part_bad (parts_of c.args.text.now) (length c.loop-part.yielded) c.in-Some.part.now turn (named_scales_of c.loop-part.named.items) c.loop-part.invariant
-    (rw c.if-not-branch.true at c.in_ok-take_part.ensures))
+    rw (part_bad (parts_of c.args.text.now) (length c.loop-part.yielded) c.in-Some.part.now turn c.loop-part.scales.named c.loop-part.invariant.named
+    (rw c.if-not-branch.true at c.in_ok-take_part.ensures.named)) refl
 
 pub loop-part-preserved : goal.loop-part-preserved
 loop-part-preserved c =
@@ -23,9 +22,13 @@ loop-part-preserved c =
     let split = c.split-part-items.ensures in
     let all = YieldsList-from_str_split 44 c.args.text.now (lit< tt) (ap split_text e ∙ split.text) (ap split_has_more e ∙ split.has_more) (ap split_pattern e ∙ split.pattern) in
     let turn = YieldsList-turn all c.loop-part.yielded _ c.loop-part.yielded_by _ _ c.in-Some.part c.in-Some.is c.next.ensures.steps in
-    part_taken (parts_of c.args.text.now) (length c.loop-part.yielded) c.in-Some.part.now turn (named_scales_of c.loop-part.named.items) c.loop-part.invariant
-    _ (named_scales_of c.take_part.new.named.items) (length_push c.loop-part.yielded c.in-Some.part)
-    (rw c.if-not-branch.false at c.in_ok-take_part.ensures)
+    record {
+      named =
+          part_taken (parts_of c.args.text.now) (length c.loop-part.yielded) c.in-Some.part.now turn c.loop-part.scales.named c.loop-part.invariant.named
+          _ c.take_part.new.scales.named (length_push c.loop-part.yielded c.in-Some.part)
+          (rw c.if-not-branch.false at c.in_ok-take_part.ensures.named);
+      others = c.in_ok-take_part.ensures.others ∙ c.loop-part.invariant.others;
+    }
 
 pub returns : goal.returns
 returns c =
@@ -33,4 +36,6 @@ returns c =
     let split = c.split-part-items.ensures in
     let all = YieldsList-from_str_split 44 c.args.text.now (lit< tt) (ap split_text e ∙ split.text) (ap split_has_more e ∙ split.has_more) (ap split_pattern e ∙ split.pattern) in
     let end = YieldsList-end all c.loop-part.yielded _ c.loop-part.yielded_by _ _ c.in-None.is c.next.ensures.steps in
-    sym (parts_read (parts_of c.args.text.now) (length c.loop-part.yielded) (named_scales_of c.loop-part.named.items) end.1 c.loop-part.invariant)
+    let read = parts_read (parts_of c.args.text.now) (length c.loop-part.yielded) c.loop-part.scales.named end.1 c.loop-part.invariant.named in
+    let one = c.loop-part.invariant.others in
+    rw read (λ i. Some (record { named = c.loop-part.scales.named; others = one i }))

@@ -18,4 +18,4 @@ pub returns-in-None-clause-adds : goal.returns-in-None-clause-adds
 returns-in-None-clause-adds g c = λ start at. let first = rw c.in-None.is at at in rw first c.start.ensures.adds
 
 pub returns-in-None-clause-keeps : goal.returns-in-None-clause-keeps
-returns-in-None-clause-keeps g c = λ keep rows. IfOk-weaker c.start.result _ _ (λ _ both. both.1 (keep, rows)) c.start.ensures.keeps
+returns-in-None-clause-keeps g c = λ keep. IfOk-weaker c.start.result _ _ (λ _ both. both.1 keep) c.start.ensures.keeps

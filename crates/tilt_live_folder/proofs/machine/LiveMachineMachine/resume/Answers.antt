@@ -27,4 +27,4 @@ pub returns-in-Ok-clause-written : goal.returns-in-Ok-clause-written
 returns-in-Ok-clause-written c = λ bytes commit is same.
     let recipe = c.args.recipe in
     let left = subst (IsLeft recipe bytes (length commit.output)) (sym c.split_lines.ensures.lines) (left-of recipe bytes commit c.args.text.now is same) in
-    c.in_ok-resumed.ensures.written bytes (length commit.output) left ∙ counted (length commit.output) is.in_range.progress.written
+    c.in_ok-resumed.ensures.written bytes (length commit.output) left ∙ counted (length commit.output) is.in_range.state.progress.written

@@ -26,4 +26,4 @@ pub returns-clause-live : goal.returns-clause-live
 returns-clause-live c = c.in_ok-live.ensures.usable
 
 pub returns-clause-keeps : goal.returns-clause-keeps
-returns-clause-keeps c = rw (c.in_ok-new.ensures.keeps, c.in_ok-new-2.ensures.form) refl
+returns-clause-keeps c = c.in_ok-new.ensures.keeps

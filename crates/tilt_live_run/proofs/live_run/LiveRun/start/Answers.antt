@@ -3,8 +3,7 @@ use Rattle.std.proofs.lemmas.Result.{err_from_is_err_and}
 use Rattle.tilt_feed_form.specs.Machine.{form_of, kept_of}
 use Rattle.tilt_live_run.specs.declared.display.Display.{Display}
 use Rattle.tilt_live_run.proofs.Adding.{adds-again, adds-value}
-use Rattle.tilt_live_run.proofs.KeepingRows.{needs-both}
-use Rattle.tilt_live_run.specs.Left.{is_rows}
+use Rattle.tilt_live_run.proofs.KeepingRows.{needs-state}
 use Rattle.tilt_live_run.proofs.live_run.LiveRun.start.Goals as goal
 
 pub returns-in_err-begin-clause-adds : goal.returns-in_err-begin-clause-adds
@@ -41,4 +40,4 @@ returns-clause-is g c =
 
 pub returns-clause-keeps : goal.returns-clause-keeps
 returns-clause-keeps g c =
-    needs-both c.args.keep (is_rows c.args.options.form) _ (c.begin.ensures.keeps ∙ c.in_ok-run.ensures.keeps)
+    needs-state c.args.keep _ (c.begin.ensures.keeps ∙ c.in_ok-run.ensures.keeps)

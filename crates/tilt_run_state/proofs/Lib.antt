@@ -1,0 +1,4 @@
+mod Parts
+mod Setups
+mod Splitting
+mod Texts

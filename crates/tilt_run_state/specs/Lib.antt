@@ -1,0 +1,7 @@
+pub mod Faults
+pub mod Numbers
+pub mod Rejection
+pub mod Setup
+pub mod Spelling
+pub mod State
+pub mod Valid
