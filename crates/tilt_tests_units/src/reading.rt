@@ -2,19 +2,27 @@
 use crate::texts::{TEXTS, TextCase, WHOLE};
 use std::alloc::Global;
 use std::test::Fail;
+use tilt_input_scales::{InputScale, Scales};
 use tilt_lexer::Name;
 use tilt_syntax::print;
-use tilt_unit_text::{InputScale, UnitFault, UnitQuery, read_in_units};
-use tilt_units::Scale;
+use tilt_unit_text::{UnitFault, UnitQuery, read_in_units};
 
-fn scales_of(alloc: Global, given: &[(&str, u64)]) -> Result<Vec<InputScale>, Fail> {
-    let mut scales = Vec::new(alloc);
-    for (name, parts) in given {
-        let name = Name::read(alloc, name.as_bytes())?.ok_or("no name")?;
-        let scale = Scale::new(*parts).ok_or("no scale")?;
-        scales.push(InputScale { name, scale })?;
+// The scales of inputs by name; the others have the scale 1.
+pub fn scales_of(alloc: Global, given: &[(&str, u64)]) -> Result<Scales, Fail> {
+    let mut scales = Scales::new(alloc, 1);
+    for (name, scale) in given {
+        push_scale(alloc, &mut scales, name, *scale)?;
     }
     Ok(scales)
+}
+
+fn push_scale(alloc: Global, scales: &mut Scales, name: &str, scale: u64) -> Result<(), Fail> {
+    if scale < 1 || scale > 1_000_000_000_000_000_000 {
+        return Err("no scale".into());
+    }
+    let name = Name::read(alloc, name.as_bytes())?.ok_or("no name")?;
+    scales.push(InputScale { name, scale })?;
+    Ok(())
 }
 
 fn read(alloc: Global, case: &TextCase) -> Result<Result<UnitQuery, UnitFault>, Fail> {

@@ -200,7 +200,7 @@ pub const TEXTS: &[TextCase] = &[
         SPO2,
         "Scale { statement: 2, fault: ScaleTooLarge(Place { definition: 0, node: 0 }) }",
     ),
-    // A literal that isn't whole at the scale of the other operand, or too large there; a scale that is missing.
+    // A literal that isn't whole at the scale of the other operand, or too large there.
     (
         "input spo2; emit spo2 when spo2 < 96.55 over (0, 600];",
         SPO2,
@@ -217,10 +217,11 @@ pub const TEXTS: &[TextCase] = &[
         BOTH,
         "Scale { statement: 4, fault: LiteralNotWhole(Place { definition: 1, node: 4 }) }",
     ),
+    // An input of which no scale is given has whole numbers.
     (
         "input spo2; input pulse; emit spo2 + pulse over (0, 600];",
         SPO2,
-        "NoScale { input: 1 }",
+        "Number(Scale { parts: 10 }) Two(Add, Read { source: 0, offset: 0 }, Two(Mul, Const(10), Read { source: 1, offset: 0 }))",
     ),
     // Other texts that aren't queries.
     (

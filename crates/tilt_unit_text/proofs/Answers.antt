@@ -1,5 +1,6 @@
 -- A text in units has one answer.
 use Rattle.std.proofs.Common.{◌≡◌, ◌≢◌, ◌⊎◌, inl, inr, ℕ, List, Result, Ok, Err, refl, sym, ap, ◌∙◌, subst}
+use Rattle.tilt_input_scales.specs.Scales.{ScalesValue}
 use Rattle.tilt_lexer.specs.Tokens.{AreTokens, IsFaultyAt}
 use Rattle.tilt_lexer.specs.declared.fault.LexFault.{LexFault}
 use Rattle.tilt_lexer.specs.declared.fault.LexFault.TheVariants as lexical
@@ -21,13 +22,12 @@ use Rattle.tilt_unit_text.specs.Reading.{Gives, GivesAnswer, GivesReading, IsAns
 use Rattle.tilt_unit_text.specs.Units.{UnitParts, of_syntax, query_in_units}
 use Rattle.tilt_unit_text.specs.declared.fault.UnitFault.{UnitFault}
 use Rattle.tilt_unit_text.specs.declared.fault.UnitFault.TheVariants as fault
-use Rattle.tilt_unit_text.specs.declared.input_scale.InputScale.{InputScale}
 use Rattle.tilt_unit_text.specs.declared.written.Written.{Written}
 
 same_noted : (points : List ℕ) (ts : List Token) (m n : List Written) → noted points ts ≡ Ok m → noted points ts ≡ Ok n → m ≡ n
 same_noted points ts m n e f = cc
 
-one_answer : {scales : List InputScale} {points : List ℕ} {ts : List Token} {a b : Result UnitParts UnitFault}
+one_answer : {scales : ScalesValue} {points : List ℕ} {ts : List Token} {a b : Result UnitParts UnitFault}
     → IsAnswer scales points ts a → IsAnswer scales points ts b → a ≡ b
 one_answer (no_numbers e) (no_numbers f) = cc
 one_answer (no_numbers e) (no_query n f r) = absurd (cc (e, f))
@@ -43,7 +43,7 @@ one_answer (query {scales = scales} {points = points} {tokens = ts} m q p e r s)
     let places = one_query (counted 0 (kinds ts)) p k s u in
     cc (numbers, queries, places)
 
-pub one_reading : {scales : List InputScale} {text : List ℕ} {a b : Result UnitParts UnitFault}
+pub one_reading : {scales : ScalesValue} {text : List ℕ} {a b : Result UnitParts UnitFault}
     → Reads scales text a → Reads scales text b → a ≡ b
 one_reading (no_tokens {text = text} e) (no_tokens f) = ap (λ x. Err (fault_in_text (points_of text) x)) (same_fault e f refl refl)
 one_reading (no_tokens e) (tokens ts are is) = absurd (tokens_or_fault are e refl)
@@ -52,24 +52,24 @@ one_reading (tokens {scales = scales} {text = text} ts are is) (tokens {answer =
     one_answer is (subst (λ vs. IsAnswer scales (points_of text) vs b) (same_tokens these are refl refl) so)
 
 -- what is given is the one answer
-pub gives_only : {A : Type 0} (seen : A → UnitParts) (scales : List InputScale) (text : List ℕ) (given : Result A UnitFault)
+pub gives_only : {A : Type 0} (seen : A → UnitParts) (scales : ScalesValue) (text : List ℕ) (given : Result A UnitFault)
     → GivesReading seen scales text given → (answer : Result UnitParts UnitFault) → Reads scales text answer → Gives seen given answer
 gives_only seen scales text (Ok a) g answer r = one_reading r g
 gives_only seen scales text (Err f) g answer r = elim g [ inl memory ↦ inl memory | inr read ↦ inr (one_reading r read) ]
 
 -- what is given for the text without points is given for the text
-pub lexed_fault : (scales : List InputScale) (text : List ℕ) (f : LexFault) → (f ≢ lexical.OutOfMemory → IsFaultyAt 0 (without_points text) f)
+pub lexed_fault : (scales : ScalesValue) (text : List ℕ) (f : LexFault) → (f ≢ lexical.OutOfMemory → IsFaultyAt 0 (without_points text) f)
     → (fault_in_text (points_of text) f ≡ fault.OutOfMemory) ⊎ Reads scales text (Err (fault_in_text (points_of text) f))
 lexed_fault scales text (lexical.BadByte at) h = inr (no_tokens (h (λ e. cc)))
 lexed_fault scales text (lexical.BigNumber at) h = inr (no_tokens (h (λ e. cc)))
 lexed_fault scales text lexical.OutOfMemory h = inl refl
 
-pub reading_of : {A : Type 0} (seen : A → UnitParts) (scales : List InputScale) (text : List ℕ) (ts : List Token) (given : Result A UnitFault)
+pub reading_of : {A : Type 0} (seen : A → UnitParts) (scales : ScalesValue) (text : List ℕ) (ts : List Token) (given : Result A UnitFault)
     → AreTokens 0 (without_points text) ts → GivesAnswer seen scales (points_of text) ts given → GivesReading seen scales text given
 reading_of seen scales text ts (Ok a) are g = tokens ts are g
 reading_of seen scales text ts (Err f) are g = elim g [ inl memory ↦ inl memory | inr is ↦ inr (tokens ts are is) ]
 
-module _ (scales : List InputScale) (points : List ℕ) (ts : List Token) where
+module _ (scales : ScalesValue) (points : List ℕ) (ts : List Token) where
   pub noted_fault : (f : UnitFault) → (f ≡ fault.OutOfMemory) ⊎ (noted points ts ≡ Err f)
       → (f ≡ fault.OutOfMemory) ⊎ IsAnswer scales points ts (Err f)
   noted_fault f h = elim h [ inl memory ↦ inl memory | inr e ↦ inr (no_numbers e) ]

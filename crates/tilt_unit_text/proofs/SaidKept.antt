@@ -8,6 +8,7 @@ use Rattle.tilt_base.specs.Expression.{Leaf, One, Two, If}
 use Rattle.tilt_core.specs.Core.{CoreParts}
 use Rattle.tilt_core.specs.CoreTree.{Definition}
 use Rattle.tilt_core.specs.Meaning.{sources}
+use Rattle.tilt_input_scales.specs.Scales.{ScalesValue}
 use Rattle.tilt_lexer.proofs.Unique.{same_tokens}
 use Rattle.tilt_lexer.specs.declared.token.Token.{Token}
 use Rattle.tilt_stream.specs.Stream.{stream_of}
@@ -30,10 +31,9 @@ use Rattle.tilt_unit_text.specs.Points.{points_of}
 use Rattle.tilt_unit_text.specs.Reading.{no_numbers, no_query, query, Reads, no_tokens, tokens}
 use Rattle.tilt_unit_text.specs.Said.{IsInUnits, QueryInUnits}
 use Rattle.tilt_unit_text.specs.Size.{long_fault}
-use Rattle.tilt_unit_text.specs.Units.{UnitParts, checked_in_units, core_in_units, in_units, large_fault, more_scales, of_check, of_scale, query_in_units, unit_definitions}
+use Rattle.tilt_unit_text.specs.Units.{UnitParts, checked_in_units, core_in_units, in_units, large_fault, of_check, of_scale, query_in_units, scales_for, unit_definitions}
 use Rattle.tilt_unit_text.specs.Units.{whole_parts, whole_query, with_fault}
 use Rattle.tilt_unit_text.specs.declared.fault.UnitFault.{UnitFault}
-use Rattle.tilt_unit_text.specs.declared.input_scale.InputScale.{InputScale}
 use Rattle.tilt_unit_text.specs.declared.written.Written.{Written}
 
 -- the scales of literals are positive
@@ -78,41 +78,36 @@ passed None a b h = (refl, cc h)
 passed (Some f) a b h = absurd (cc h)
 
 -- how a query became one over whole numbers
-pub record Made (scales : List InputScale) (numbers : List Written) (q places : List StatementTree) (parts : UnitParts) : Type 0 where
+pub record Made (scales : ScalesValue) (numbers : List Written) (q places : List StatementTree) (parts : UnitParts) : Type 0 where
   pub core : CoreParts
-  pub given : List ℕ
   pub made : ScaledQuery
   pub whole_ticks : query_fault numbers places ≡ None
   pub well_formed : checked q ≡ Ok core
-  pub scaled : more_scales scales [] core.inputs ≡ Ok given
-  pub is : translated given (unit_definitions (core.inputs ++ core.names) numbers places core.defs) ≡ Ok made
+  pub is : translated (scales_for scales core.inputs) (unit_definitions (core.inputs ++ core.names) numbers places core.defs) ≡ Ok made
   pub clear : option_or (large_fault q 0 made.defs) (long_fault 1 (whole_statements q made.defs)) ≡ None
   pub parts_are : whole_parts q core made ≡ parts
 
-pub made_from : (scales : List InputScale) (numbers : List Written) (q places : List StatementTree) (parts : UnitParts)
+pub made_from : (scales : ScalesValue) (numbers : List Written) (q places : List StatementTree) (parts : UnitParts)
     → query_in_units scales numbers q places ≡ Ok parts → Made scales numbers q places parts
 made_from scales numbers q places parts h =
     through (unless (query_fault numbers places) tt) (λ (whole : Unit {0}). checked_in_units scales numbers q places) parts h (λ whole none rest.
     through (with_fault of_check (checked q)) (λ core. core_in_units scales numbers q places core) parts rest (λ core good more.
     let units = unit_definitions (core.inputs ++ core.names) numbers places core.defs in
-    through (more_scales scales [] core.inputs) (λ given. and_then (with_fault (of_scale places) (translated given units))
-    (λ made. whole_query q core made)) parts more (λ given found last.
-    through (with_fault (of_scale places) (translated given units)) (λ made. whole_query q core made) parts last (λ made is done.
+    let given = scales_for scales core.inputs in
+    through (with_fault (of_scale places) (translated given units)) (λ made. whole_query q core made) parts more (λ made is done.
     let known = passed (option_or (large_fault q 0 made.defs) (long_fault 1 (whole_statements q made.defs))) (whole_parts q core made) parts done in
     record {
       core = core;
-      given = given;
       made = made;
       whole_ticks = (passed (query_fault numbers places) tt whole none).0;
       well_formed = faultless of_check (checked q) core good;
-      scaled = found;
       is = faultless (of_scale places) (translated given units) made is;
       clear = known.0;
       parts_are = known.1;
-    }))))
+    })))
 
 -- a text that is read is a query in units
-said_from : {scales : List InputScale} {text : List ℕ} {r : Result UnitParts UnitFault} → Reads scales text r → (parts : UnitParts) → r ≡ Ok parts
+said_from : {scales : ScalesValue} {text : List ℕ} {r : Result UnitParts UnitFault} → Reads scales text r → (parts : UnitParts) → r ≡ Ok parts
     → (said : QueryInUnits) × IsInUnits scales text said
 said_from (no_tokens e) parts h = absurd (cc h)
 said_from (tokens ts are (no_numbers e)) parts h = absurd (cc h)
@@ -121,7 +116,7 @@ said_from (tokens {scales = scales} {text = text} ts are (query numbers q places
     let m = made_from scales numbers q places parts h in (
       record {
         inputs = m.core.inputs;
-        scales = m.given;
+        scales = scales_for scales m.core.inputs;
         defs = unit_definitions (m.core.inputs ++ m.core.names) numbers places m.core.defs;
       },
       record {
@@ -137,12 +132,12 @@ said_from (tokens {scales = scales} {text = text} ts are (query numbers q places
         placed = so;
         whole_ticks = m.whole_ticks;
         inputs = refl;
-        scaled = m.scaled;
+        scaled = refl;
         defs = refl;
       },
     )
 
-pub is_said : (scales : List InputScale) (text : List ℕ) (parts : UnitParts) → Reads scales text (Ok parts)
+pub is_said : (scales : ScalesValue) (text : List ℕ) (parts : UnitParts) → Reads scales text (Ok parts)
     → (said : QueryInUnits) × IsInUnits scales text said
 is_said scales text parts r = said_from r parts refl
 
@@ -153,17 +148,11 @@ core_same p q c d e h k = cc
 numbers_same : (points : List ℕ) (ts us : List Token) (m n : List Written) → ts ≡ us → noted points ts ≡ Ok m → noted points us ≡ Ok n → m ≡ n
 numbers_same points ts us m n e h k = cc
 
-scales_same : (scales : List InputScale) (c d : CoreParts) (xs ys : List ℕ) → c ≡ d → more_scales scales [] c.inputs ≡ Ok xs
-    → more_scales scales [] d.inputs ≡ Ok ys → xs ≡ ys
-scales_same scales c d xs ys e h k =
-    let same : Ok xs ≡ Ok ys = sym h ∙ ap (λ (core : CoreParts). more_scales scales [] core.inputs) e ∙ k in
-    cc same
-
 units_same : (m n : List Written) (p q : List StatementTree) (c d : CoreParts) → m ≡ n → p ≡ q → c ≡ d
     → unit_definitions (c.inputs ++ c.names) m p c.defs ≡ unit_definitions (d.inputs ++ d.names) n q d.defs
 units_same m n p q c d e f g = λ i. unit_definitions ((g i).inputs ++ (g i).names) (e i) (f i) (g i).defs
 
-pub one_said : (scales : List InputScale) (text : List ℕ) (a b : QueryInUnits) → IsInUnits scales text a → IsInUnits scales text b → a ≡ b
+pub one_said : (scales : ScalesValue) (text : List ℕ) (a b : QueryInUnits) → IsInUnits scales text a → IsInUnits scales text b → a ≡ b
 one_said scales text a b s t =
     let same = same_tokens s.are t.are refl refl in
     let numbers = numbers_same (points_of text) s.tokens t.tokens s.numbers t.numbers same s.written t.written in
@@ -173,7 +162,7 @@ one_said scales text a b s t =
     (subst (λ (ts : List Token). IsQueryOf (counted 0 (kinds ts)) t.places) back t.placed) in
     let cores = core_same s.query t.query s.core t.core queries s.well_formed t.well_formed in
     let inputs : a.inputs ≡ b.inputs = s.inputs ∙ ap (λ (c : CoreParts). c.inputs) cores ∙ sym t.inputs in
-    let given = scales_same scales s.core t.core a.scales b.scales cores s.scaled t.scaled in
+    let given : a.scales ≡ b.scales = s.scaled ∙ ap (λ (c : CoreParts). scales_for scales c.inputs) cores ∙ sym t.scaled in
     let defs : a.defs ≡ b.defs = s.defs ∙ units_same s.numbers t.numbers s.places t.places s.core t.core numbers places cores ∙ sym t.defs in
     λ i. record { inputs = inputs i; scales = given i; defs = defs i }
 
@@ -186,14 +175,14 @@ pub record Kept (said : QueryInUnits) (parts : UnitParts) : Type 0 where
   pub defs : parts.core.defs ≡ made.defs
   pub quantities : parts.quantities ≡ made.quantities
 
-pub said_kept : (scales : List InputScale) (text : List ℕ) (parts : UnitParts) (said : QueryInUnits) → Reads scales text (Ok parts)
+pub said_kept : (scales : ScalesValue) (text : List ℕ) (parts : UnitParts) (said : QueryInUnits) → Reads scales text (Ok parts)
     → IsInUnits scales text said → Kept said parts
 said_kept scales text parts said r s =
     let answer : Reads scales text (query_in_units scales s.numbers s.query s.places) =
     tokens s.tokens s.are (query s.numbers s.query s.places s.written s.parsed s.placed) in
     let m = made_from scales s.numbers s.query s.places parts (one_reading answer r) in
     let cores = core_same s.query s.query m.core s.core refl m.well_formed s.well_formed in
-    let given = scales_same scales m.core s.core m.given said.scales cores m.scaled s.scaled in
+    let given = ap (λ (c : CoreParts). scales_for scales c.inputs) cores ∙ sym s.scaled in
     let units = units_same s.numbers s.numbers s.places s.places m.core s.core refl refl cores ∙ sym s.defs in
     let names = s.core.inputs ++ s.core.names in
     record {
@@ -205,7 +194,7 @@ said_kept scales text parts said r s =
       quantities = sym (ap (λ (p : UnitParts). p.quantities) m.parts_are);
     }
 
-pub said_stands : (chosen : Chosen) (scales : List InputScale) (text : List ℕ) (parts : UnitParts) (said : QueryInUnits) (inputs : List ScaledRows)
+pub said_stands : (chosen : Chosen) (scales : ScalesValue) (text : List ℕ) (parts : UnitParts) (said : QueryInUnits) (inputs : List ScaledRows)
     → Reads scales text (Ok parts) → IsInUnits scales text said → scales_of inputs ≡ said.scales → InputsHaveScales inputs
     → QueryStaysWithin chosen (map stream_of (rows_of inputs)) parts.core.defs
     → SourcesStand chosen (sources (rows_of inputs) parts.core.defs) (exact_sources inputs said.defs)
@@ -216,7 +205,7 @@ said_stands chosen scales text parts said inputs r s e positive stays =
     subst (λ (ds : List Definition). SourcesStand chosen (sources (rows_of inputs) ds) (exact_sources inputs said.defs)) (sym k.defs)
     (query_stands chosen inputs said.defs k.made positive k.positive is within)
 
-pub said_quantities : (scales : List InputScale) (text : List ℕ) (parts : UnitParts) (said : QueryInUnits) (inputs : List ScaledRows)
+pub said_quantities : (scales : ScalesValue) (text : List ℕ) (parts : UnitParts) (said : QueryInUnits) (inputs : List ScaledRows)
     → Reads scales text (Ok parts) → IsInUnits scales text said → scales_of inputs ≡ said.scales
     → parts.quantities ≡ quantities_of (exact_sources inputs said.defs)
 said_quantities scales text parts said inputs r s e =

@@ -4,12 +4,13 @@ use Rattle.std.proofs.Common.{map, Option, Some, None, Result, Ok, refl, sym, ap
 use Rattle.std.specs.List.{AllByRecursion, slice_get}
 use Rattle.std.proofs.lemmas.Bool.Decides.{nat_tests}
 use Rattle.std.proofs.lemmas.Int.{ints}
-use Rattle.std.proofs.lemmas.List.{append_assoc, append-nil}
+use Rattle.std.proofs.lemmas.List.{append_assoc}
 use Rattle.tilt_base.specs.Expression.{Leaf, One, Two, If}
 use Rattle.tilt_base.specs.Number.{within_64_bits}
 use Rattle.tilt_base.specs.declared.span.Span.{Span}
 use Rattle.tilt_core.specs.Core.{CoreParts}
 use Rattle.tilt_core.specs.CoreTree.{Definition, nodes}
+use Rattle.tilt_input_scales.specs.Scales.{ScalesValue}
 use Rattle.tilt_lexer.specs.Tokens.{AreTokens, IsSound}
 use Rattle.tilt_lexer.specs.Word.{AreDistinct}
 use Rattle.tilt_lexer.specs.declared.token.Tok.{Tok}
@@ -42,9 +43,8 @@ use Rattle.tilt_unit_text.specs.Places.{ticks_fault, whole_fault}
 use Rattle.tilt_unit_text.specs.Points.{is_point, points_after, points_of, without_points}
 use Rattle.tilt_unit_text.specs.Reading as reading
 use Rattle.tilt_unit_text.specs.Reading.{Reads}
-use Rattle.tilt_unit_text.specs.Units.{HaveScaleOne, UnitParts, large_fault, more_scales, query_in_units, unit_definitions}
+use Rattle.tilt_unit_text.specs.Units.{HaveScaleOne, UnitParts, large_fault, query_in_units, scales_for, unit_definitions}
 use Rattle.tilt_unit_text.specs.declared.fault.UnitFault.{UnitFault}
-use Rattle.tilt_unit_text.specs.declared.input_scale.InputScale.{InputScale}
 use Rattle.tilt_unit_text.specs.declared.written.Written.{Written}
 
 -- a text without points is itself without them
@@ -162,12 +162,9 @@ module _ (numbers : List Written) (all : AllByRecursion IsWhole numbers) where
 abbrev ones : List (List ℕ) → List ℕ
 ones names = map (λ name. 1) names
 
-scales_ones : (scales : List InputScale) (so_far : List ℕ) (names : List (List ℕ)) → HaveScaleOne scales names
-    → more_scales scales so_far names ≡ Ok (so_far ++ ones names)
-scales_ones scales so_far [] h = ap (λ xs. Ok xs) (sym (append-nil so_far))
-scales_ones scales so_far (x ∷ names) h =
-    let first = h.0 in
-    rw first (scales_ones scales (so_far ++ 1 ∷ []) names h.1 ∙ ap (λ xs. Ok xs) (append_assoc so_far (1 ∷ []) (ones names)))
+scales_ones : (scales : ScalesValue) (names : List (List ℕ)) → HaveScaleOne scales names → scales_for scales names ≡ ones names
+scales_ones scales [] h = refl
+scales_ones scales (x ∷ names) h = let first = h.0 in rw first (ap (λ xs. 1 ∷ xs) (scales_ones scales names h.1))
 
 length_ones : (names : List (List ℕ)) → length (ones names) ≡ length names
 length_ones [] = refl
@@ -271,7 +268,7 @@ translated_ones numbers all query places same is none =
         subst P same all none inputs is last small
 
 -- the answer for its tokens
-answer_ones : (scales : List InputScale) (numbers : List Written) → AllByRecursion IsWhole numbers → (query places : List StatementTree)
+answer_ones : (scales : ScalesValue) (numbers : List Written) → AllByRecursion IsWhole numbers → (query places : List StatementTree)
     → query_with numbers places ≡ query → IsQuery query → checked query ≡ Ok (core_of query) → HaveScaleOne scales (input_names query)
     → (quantities : List Quantity) × (query_in_units scales numbers query places ≡ Ok (record { query = query; core = core_of query; quantities = quantities }))
 answer_ones scales numbers all query places same is check one =
@@ -284,7 +281,7 @@ answer_ones scales numbers all query places same is check one =
       rw (
         no_query numbers all places,
         check,
-        scales_ones scales [] (input_names query) one,
+        scales_ones scales (input_names query) one,
         t.is,
         none_large names query query 0 small,
         statements_same names query,
@@ -292,7 +289,7 @@ answer_ones scales numbers all query places same is check one =
       ) refl,
     )
 
-pub whole_text : (scales : List InputScale) (text : List ℕ) (q : List StatementTree) (core : CoreParts) → points_of text ≡ [] → IsQueryText text q
+pub whole_text : (scales : ScalesValue) (text : List ℕ) (q : List StatementTree) (core : CoreParts) → points_of text ≡ [] → IsQueryText text q
     → checked q ≡ Ok core → HaveScaleOne scales core.inputs
     → (quantities : List Quantity) × Reads scales text (Ok (record { query = q; core = core; quantities = quantities }))
 whole_text scales text q core none is check one =

@@ -3,11 +3,11 @@ use Rattle.std.proofs.Common.{◌≡◌, ℕ, zero, suc, ◌+◌, ◌≤◌, ◌
 use Rattle.std.proofs.Common.{Ok, refl, sym, ap, ◌∙◌, subst, arith}
 use Rattle.std.specs.List.{AllByRecursion, slice_get}
 use Rattle.std.specs.Option.{option_or}
-use Rattle.std.specs.Str.{bytes_eq}
 use Rattle.std.proofs.lemmas.Bool.Decides.{nat_tests}
-use Rattle.std.proofs.lemmas.List.{length_push}
-use Rattle.tilt_base.proofs.Lists.{all-push}
+use Rattle.std.proofs.lemmas.List.{length-map}
 use Rattle.tilt_core.specs.Core.{CoreParts}
+use Rattle.tilt_input_scales.proofs.Named.{named_is}
+use Rattle.tilt_input_scales.specs.Scales.{AreScales, IsInputScale, ScalesValue, scale_named}
 use Rattle.tilt_lexer.proofs.Sound.{sound}
 use Rattle.tilt_syntax.proofs.Parsing.{sound-kinds}
 use Rattle.tilt_syntax.specs.Query.{AreSound, IsQuery, kinds, statements}
@@ -22,7 +22,7 @@ use Rattle.tilt_unit_text.proofs.BesideQueries.{AreBeside, whole_checked, whole_
 use Rattle.tilt_unit_text.proofs.Names.{last_emits, no_check}
 use Rattle.tilt_unit_text.proofs.Numbered.{noted_written}
 use Rattle.tilt_unit_text.proofs.QueriesBeside.{translation_beside}
-use Rattle.tilt_unit_text.proofs.SaidKept.{is_said, made_from, through}
+use Rattle.tilt_unit_text.proofs.SaidKept.{is_said, made_from}
 use Rattle.tilt_unit_text.proofs.ScaledBeside.{HaveFew}
 use Rattle.tilt_unit_text.specs.Named.{whole_statements}
 use Rattle.tilt_unit_text.specs.Numbers.{IsWritten}
@@ -30,9 +30,8 @@ use Rattle.tilt_unit_text.specs.Places.{decimals_of, number_at, query_with}
 use Rattle.tilt_unit_text.specs.Points.{points_of}
 use Rattle.tilt_unit_text.specs.Reading.{Reads, query, tokens}
 use Rattle.tilt_unit_text.specs.Size.{AreShort, long_fault, statement_size}
-use Rattle.tilt_unit_text.specs.Units.{UnitParts, large_fault, more_scales, query_in_units, scale_named, unit_definitions, with_scale}
+use Rattle.tilt_unit_text.specs.Units.{UnitParts, large_fault, query_in_units, scales_for, unit_definitions}
 use Rattle.tilt_unit_text.specs.declared.fault.UnitFault.{UnitFault}
-use Rattle.tilt_unit_text.specs.declared.input_scale.InputScale.{InputScale}
 use Rattle.tilt_unit_text.specs.declared.written.Written.{Written}
 
 -- no statement is too long
@@ -68,45 +67,15 @@ have_few numbers h = record { few = few h }
     few h (negsuc n) = few_at numbers n h
 
 -- the scales of inputs
-more_length : (scales : List InputScale) (so_far : List ℕ) (names : List (List ℕ)) (parts : List ℕ) → more_scales scales so_far names ≡ Ok parts
-    → length parts ≡ length so_far + length names
-more_length scales so_far [] parts h = let same : so_far ≡ parts = cc h in omega (arith, ap length same)
-more_length scales so_far (name ∷ names) parts h =
-    through (with_scale so_far (scale_named scales name)) (λ next. more_scales scales next names) parts h (λ next is rest.
-    let more = more_length scales next names parts rest in
-    let one = pushed (scale_named scales name) next is in
-    omega (arith, more, one))
-  where
-    pushed : (o : Option ℕ) (next : List ℕ) → with_scale so_far o ≡ Ok next → length next ≡ suc (length so_far)
-    pushed None next h = absurd (cc h)
-    pushed (Some s) next h = let same : so_far ++ s ∷ [] ≡ next = cc h in sym (ap length same) ∙ omega (arith, length_push so_far s)
+pub scales_length : (scales : ScalesValue) (names : List (List ℕ)) → length (scales_for scales names) ≡ length names
+scales_length scales names = length-map names (scale_named scales)
 
-pub scales_length : (scales : List InputScale) (names : List (List ℕ)) (parts : List ℕ) → more_scales scales [] names ≡ Ok parts
-    → length parts ≡ length names
-scales_length scales names parts h = omega (arith, more_length scales [] names parts h)
+is_scale : (scale : ℕ) → IsInputScale scale → IsScale scale
+is_scale scale h = let small = h.small in record { positive = h.positive; small = omega arith }
 
-named_scale : (scales : List InputScale) (name : List ℕ) (s : ℕ) → AllByRecursion (λ (one : InputScale). IsScale one.scale) scales
-    → scale_named scales name ≡ Some s → IsScale s
-named_scale [] name s all h = absurd (cc h)
-named_scale (one ∷ scales) name s all h = by_test (bytes_eq one.name name) h (named_scale scales name s all.1)
-  where
-    by_test : (is : Bool) → (if is then Some one.scale else scale_named scales name) ≡ Some s → (scale_named scales name ≡ Some s → IsScale s) → IsScale s
-    by_test true h go = let same : one.scale ≡ s = cc h in subst IsScale same all.0
-    by_test false h go = go h
-
-scales_are : (scales : List InputScale) (so_far : List ℕ) (names : List (List ℕ)) (parts : List ℕ)
-    → AllByRecursion (λ (one : InputScale). IsScale one.scale) scales → AllByRecursion IsScale so_far → more_scales scales so_far names ≡ Ok parts
-    → AllByRecursion IsScale parts
-scales_are scales so_far [] parts all h e = let same : so_far ≡ parts = cc e in subst (AllByRecursion IsScale) same h
-scales_are scales so_far (name ∷ names) parts all h e =
-    through (with_scale so_far (scale_named scales name)) (λ next. more_scales scales next names) parts e (λ next is rest.
-    scales_are scales next names parts all (pushed (scale_named scales name) next refl is) rest)
-  where
-    pushed : (o : Option ℕ) (next : List ℕ) → scale_named scales name ≡ o → with_scale so_far o ≡ Ok next → AllByRecursion IsScale next
-    pushed None next there h = absurd (cc h)
-    pushed (Some s) next there e =
-        let same : so_far ++ s ∷ [] ≡ next = cc e in
-        subst (AllByRecursion IsScale) same (all-push IsScale so_far s h (named_scale scales name s all there))
+scales_are : (scales : ScalesValue) (names : List (List ℕ)) → AreScales scales → AllByRecursion IsScale (scales_for scales names)
+scales_are scales [] h = tt
+scales_are scales (name ∷ names) h = (is_scale (scale_named scales name) (named_is scales name h), scales_are scales names h)
 
 small_scales : (parts : List ℕ) → AllByRecursion IsScale parts → AllByRecursion (λ s. s < 9223372036854775808) parts
 small_scales [] h = tt
@@ -139,7 +108,7 @@ whole_written numbers q places core parts final written placed check scales many
     whole_is_query (source_names q) q final.defs is b short
 
 -- what a text is over whole numbers
-pub whole_law : (scales : List InputScale) (text : List ℕ) (parts : UnitParts) → AllByRecursion (λ (one : InputScale). IsScale one.scale) scales
+pub whole_law : (scales : ScalesValue) (text : List ℕ) (parts : UnitParts) → AreScales scales
     → Reads scales text (Ok parts) → IsQuery parts.query × (checked parts.query ≡ Ok parts.core)
 whole_law scales text parts all r =
     let s = (is_said scales text parts r).1 in
@@ -150,9 +119,9 @@ whole_law scales text parts all r =
     let written = noted_written (points_of text) s.tokens s.numbers sounds s.written in
     let same = placed_same (points_of text) s.tokens s.numbers s.query s.places s.written s.parsed s.placed in
     let is : IsQuery s.query = record { tokens = kinds s.tokens; sound = sounds; parsed = s.parsed } in
-    let given = scales_are scales [] m.core.inputs m.given all tt m.scaled in
-    let many = scales_length scales m.core.inputs m.given m.scaled in
-    let b = whole_beside s.numbers s.query s.places m.core m.given m.made written same m.well_formed given many m.is is in
+    let given = scales_for scales m.core.inputs in
+    let many = scales_length scales m.core.inputs in
+    let b = whole_beside s.numbers s.query s.places m.core given m.made written same m.well_formed (scales_are scales m.core.inputs all) many m.is is in
     let short = short_whole s.query (whole_statements s.query m.made.defs) (large_fault s.query 0 m.made.defs) m.clear in
     let none = no_check (first_fault 1 [] s.query) (core_of s.query) m.core m.well_formed in
     let core = checked-core s.query m.core m.well_formed in

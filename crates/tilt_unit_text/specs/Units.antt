@@ -1,12 +1,12 @@
 -- The query over whole numbers that a text in units is, over the scales of its inputs (our own rule).
-use Rattle.std.specs.Prelude.{◌≡◌, ⊤, ℕ, ℤ, zero, suc, ◌+◌, nat_lt, if◌then◌else◌, List, [], ◌∷◌, ◌++◌, length, Option, Some, None, Result}
-use Rattle.std.specs.Prelude.{Ok, Err}
+use Rattle.std.specs.Prelude.{◌≡◌, ⊤, ℕ, ℤ, zero, suc, ◌+◌, nat_lt, if◌then◌else◌, List, [], ◌∷◌, ◌++◌, length, map, Option, Some, None}
+use Rattle.std.specs.Prelude.{Result, Ok, Err}
 use Rattle.std.specs.List.{AllByRecursion}
 use Rattle.std.specs.Option.{option_or}
-use Rattle.std.specs.Str.{bytes_eq}
 use Rattle.tilt_base.specs.Expression.{Leaf, One, Two, If}
 use Rattle.tilt_core.specs.Core.{CoreParts, ReadsBelow}
 use Rattle.tilt_core.specs.CoreTree.{Definition, nodes}
+use Rattle.tilt_input_scales.specs.Scales.{ScalesValue, scale_named}
 use Rattle.tilt_syntax.specs.Tree.{Num, Truth, Read, Reduce, ExprTree, StatementTree, Input, Let, Emit}
 use Rattle.tilt_syntax.specs.declared.fault.SyntaxFault.{SyntaxFault}
 use Rattle.tilt_syntax.specs.declared.fault.SyntaxFault.TheVariants as syntax
@@ -25,7 +25,6 @@ use Rattle.tilt_unit_text.specs.Places.{decimals_of, digits_at, number_at, query
 use Rattle.tilt_unit_text.specs.Size.{long_fault}
 use Rattle.tilt_unit_text.specs.declared.fault.UnitFault.{UnitFault}
 use Rattle.tilt_unit_text.specs.declared.fault.UnitFault.TheVariants as fault
-use Rattle.tilt_unit_text.specs.declared.input_scale.InputScale.{InputScale}
 use Rattle.tilt_unit_text.specs.declared.unit_query.UnitQuery.{UnitQuery}
 use Rattle.tilt_unit_text.specs.declared.written.Written.{Written}
 
@@ -114,24 +113,13 @@ one_definition names numbers e query [] = []
 one_definition names numbers e query (def ∷ defs) =
     unit_definition_of names numbers e def ∷ unit_definitions names numbers query defs
 
--- the scale that is given for a name; the first one counts
-abbrev pub scale_named : List InputScale → List ℕ → Option ℕ
-scale_named [] name = None
-scale_named (one ∷ scales) name = if bytes_eq one.name name then Some one.scale else scale_named scales name
+-- the scales of inputs with these names
+abbrev pub scales_for : ScalesValue → List (List ℕ) → List ℕ
+scales_for scales names = map (scale_named scales) names
 
--- the scale 1 is given for each name
-abbrev pub HaveScaleOne : List InputScale → List (List ℕ) → Type 0
-HaveScaleOne scales names = AllByRecursion (λ name. scale_named scales name ≡ Some 1) names
-
--- one more scale, of the input with that number
-abbrev pub with_scale : List ℕ → Option ℕ → Result (List ℕ) UnitFault
-with_scale so_far None = Err (fault.NoScale (length so_far))
-with_scale so_far (Some scale) = Ok (so_far ++ scale ∷ [])
-
--- the scales of inputs with these names, after those so far
-abbrev pub more_scales : List InputScale → List ℕ → List (List ℕ) → Result (List ℕ) UnitFault
-more_scales scales so_far [] = Ok so_far
-more_scales scales so_far (name ∷ names) = and_then (with_scale so_far (scale_named scales name)) (λ next. more_scales scales next names)
+-- the scale of each input with one of these names is 1
+abbrev pub HaveScaleOne : ScalesValue → List (List ℕ) → Type 0
+HaveScaleOne scales names = AllByRecursion (λ name. scale_named scales name ≡ 1) names
 
 -- the fault of the first of more definitions of a query, after so many, of which the expression over whole numbers has more than 256 nodes
 abbrev pub large_fault : List StatementTree → ℕ → List Definition → Option UnitFault
@@ -166,18 +154,17 @@ abbrev pub IsTranslation : CoreParts → ScaledQuery → Type 0
 IsTranslation core query = HaveFrames (length core.inputs) core.defs query.defs
 
 -- what a query with a core is over whole numbers, which with each number as its count is this
-abbrev pub core_in_units : List InputScale → List Written → (query places : List StatementTree) → CoreParts → Result UnitParts UnitFault
+abbrev pub core_in_units : ScalesValue → List Written → (query places : List StatementTree) → CoreParts → Result UnitParts UnitFault
 core_in_units scales numbers query places core =
-    and_then (more_scales scales [] core.inputs) (λ parts.
-    and_then (with_fault (of_scale places) (translated parts (unit_definitions (core.inputs ++ core.names) numbers places core.defs)))
-    (λ whole. whole_query query core whole))
+    let units = unit_definitions (core.inputs ++ core.names) numbers places core.defs in
+    and_then (with_fault (of_scale places) (translated (scales_for scales core.inputs) units)) (λ whole. whole_query query core whole)
 
 -- what a query without a fault in its numbers of ticks is over whole numbers
-abbrev pub checked_in_units : List InputScale → List Written → List StatementTree → List StatementTree → Result UnitParts UnitFault
+abbrev pub checked_in_units : ScalesValue → List Written → List StatementTree → List StatementTree → Result UnitParts UnitFault
 checked_in_units scales numbers query places =
     and_then (with_fault of_check (checked query)) (λ core. core_in_units scales numbers query places core)
 
 -- what a query is over whole numbers
-abbrev pub query_in_units : List InputScale → List Written → List StatementTree → List StatementTree → Result UnitParts UnitFault
+abbrev pub query_in_units : ScalesValue → List Written → List StatementTree → List StatementTree → Result UnitParts UnitFault
 query_in_units scales numbers query places =
     and_then (unless (query_fault numbers places) tt) (λ (whole : Unit {0}). checked_in_units scales numbers query places)

@@ -31,9 +31,6 @@ pub enum UnitFault {
     /// The query isn't well formed. It is never an out-of-memory fault.
     #[error("{0}")]
     IllFormed(CheckFault),
-    /// No scale is given for the input with this number, counted from 0.
-    #[error("input {input} has no scale: give its scale, 1 for whole numbers")]
-    NoScale { input: u32 },
     /// The query has no translation to whole numbers, since the statement with this number, counted from 1, has this fault. It is never
     /// an out-of-memory fault.
     #[error("statement {statement}: {fault}")]

@@ -1,9 +1,9 @@
 // The laws of texts.
 ghost use Rattle.std.specs.Prelude.{◌≡◌, ◌≤◌, List, Ok, [], ℕ, length, map};
-ghost use Rattle.std.specs.List.{AllByRecursion};
 ghost use Rattle.tilt_core.specs.Core.{CoreParts};
 ghost use Rattle.tilt_core.specs.Meaning.{sources};
 ghost use Rattle.tilt_stream.specs.Stream.{stream_of};
+ghost use Rattle.tilt_input_scales.specs.Scales.{AreScales, ScalesValue};
 ghost use Rattle.tilt_lexer.specs.declared.token.Tok.{Tok};
 ghost use Rattle.tilt_syntax.specs.Grammar.{IsStatement};
 ghost use Rattle.tilt_syntax.specs.Query.{AreSound, IsQuery};
@@ -12,14 +12,12 @@ ghost use Rattle.tilt_syntax.specs.Tree.{StatementTree};
 ghost use Rattle.tilt_types.specs.Checked.{checked};
 ghost use Rattle.tilt_units.specs.Exact.{ScaledRows, exact_sources, quantities_of, rows_of, scales_of};
 ghost use Rattle.tilt_units.specs.Law.{Chosen, InputsHaveScales, QueryStaysWithin, SourcesStand};
-ghost use Rattle.tilt_units.specs.Scale.{IsScale};
 ghost use Rattle.tilt_units.specs.declared.quantity.Quantity.{Quantity};
 ghost use Rattle.tilt_unit_text.specs.Points.{points_of};
 ghost use Rattle.tilt_unit_text.specs.Reading.{Reads};
 ghost use Rattle.tilt_unit_text.specs.Said.{IsInUnits, QueryInUnits};
 ghost use Rattle.tilt_unit_text.specs.Size.{statement_size};
 ghost use Rattle.tilt_unit_text.specs.Units.{HaveScaleOne, UnitParts};
-ghost use Rattle.tilt_unit_text.specs.declared.input_scale.InputScale.{InputScale};
 
 /// This does nothing. Its clauses are the law of texts in units. A text that is read is one query in units. Choose some ticks of each
 /// source. At a chosen tick of a definition no node of it may leave 64 bits over whole numbers, and it may read its sources at chosen
@@ -27,26 +25,25 @@ ghost use Rattle.tilt_unit_text.specs.declared.input_scale.InputScale.{InputScal
 /// cell of the query in units, null for null. The marks are the same at every tick.
 pub fn read_texts_keep_meaning()
     // The query in units that a text is: there is one if the text is read, and there is never a second one.
-    ensures said { (scales : List InputScale) (text : List ℕ) (parts : UnitParts) → Reads scales text (Ok parts)
+    ensures said { (scales : ScalesValue) (text : List ℕ) (parts : UnitParts) → Reads scales text (Ok parts)
         → (said : QueryInUnits) × IsInUnits scales text said }
-    ensures one { (scales : List InputScale) (text : List ℕ) (a b : QueryInUnits) → IsInUnits scales text a → IsInUnits scales text b
+    ensures one { (scales : ScalesValue) (text : List ℕ) (a b : QueryInUnits) → IsInUnits scales text a → IsInUnits scales text b
         → a ≡ b }
     // It has the inputs of the query over whole numbers.
-    ensures inputs { (scales : List InputScale) (text : List ℕ) (parts : UnitParts) (said : QueryInUnits) → Reads scales text (Ok parts)
+    ensures inputs { (scales : ScalesValue) (text : List ℕ) (parts : UnitParts) (said : QueryInUnits) → Reads scales text (Ok parts)
         → IsInUnits scales text said → parts.core.inputs ≡ said.inputs }
     // Each source, inputs and definitions, whatever the rows of the inputs are.
-    ensures query { (chosen : Chosen) (scales : List InputScale) (text : List ℕ) (parts : UnitParts) (said : QueryInUnits)
+    ensures query { (chosen : Chosen) (scales : ScalesValue) (text : List ℕ) (parts : UnitParts) (said : QueryInUnits)
         (inputs : List ScaledRows) → Reads scales text (Ok parts) → IsInUnits scales text said
         → scales_of inputs ≡ said.scales → InputsHaveScales inputs
         → QueryStaysWithin chosen (map stream_of (rows_of inputs)) parts.core.defs
         → SourcesStand chosen (sources (rows_of inputs) parts.core.defs) (exact_sources inputs said.defs) }
     // The quantities, and so the scales, are those of the exact sources.
-    ensures quantities { (scales : List InputScale) (text : List ℕ) (parts : UnitParts) (said : QueryInUnits) (inputs : List ScaledRows)
+    ensures quantities { (scales : ScalesValue) (text : List ℕ) (parts : UnitParts) (said : QueryInUnits) (inputs : List ScaledRows)
         → Reads scales text (Ok parts) → IsInUnits scales text said → scales_of inputs ≡ said.scales
         → parts.quantities ≡ quantities_of (exact_sources inputs said.defs) }
     // Some text reads as the query over whole numbers, and it is well formed, with the core that is given.
-    ensures whole { (scales : List InputScale) (text : List ℕ) (parts : UnitParts)
-        → AllByRecursion (λ (one : InputScale). IsScale one.scale) scales → Reads scales text (Ok parts)
+    ensures whole { (scales : ScalesValue) (text : List ℕ) (parts : UnitParts) → AreScales scales → Reads scales text (Ok parts)
         → IsQuery parts.query × (checked parts.query ≡ Ok parts.core) }
     // No text of a statement has fewer tokens than its size.
     ensures size { (statement : StatementTree) (ts : List Tok) → AreSound ts → IsStatement ts statement
@@ -56,7 +53,7 @@ pub fn read_texts_keep_meaning()
 /// This does nothing. Its clause is the law of texts without points. Take such a text that is a well-formed query to `tilt`. If the scale
 /// of each input is 1, the text in units is that query and its core.
 pub fn whole_texts_keep_meaning()
-    ensures { (scales : List InputScale) (text : List ℕ) (query : List StatementTree) (core : CoreParts)
+    ensures { (scales : ScalesValue) (text : List ℕ) (query : List StatementTree) (core : CoreParts)
         → points_of text ≡ [] → IsQueryText text query → checked query ≡ Ok core → HaveScaleOne scales core.inputs
         → (quantities : List Quantity) × Reads scales text (Ok (record { query = query; core = core; quantities = quantities })) }
 {}

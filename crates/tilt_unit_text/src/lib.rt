@@ -1,6 +1,6 @@
 //! Queries in the units of their data, from their text.
 //!
-//! What comes in is a text in which literals can be decimals, as `temperature > 23.5`, and the scale of each input by its name. What goes
+//! What comes in is a text in which literals can be decimals, as `temperature > 23.5`, and the scales of inputs by their names. What goes
 //! out is the query over whole numbers with its core, and the quantity of each of its sources; or the first fault, with its place.
 //!
 //! `specs/Reading` says which. The points are taken out of the text, and the rest is read as any query (`specs/Points`). Each point has
@@ -18,7 +18,6 @@ mod decimal;
 mod definitions;
 mod expression;
 mod fault;
-mod input_scale;
 mod law;
 mod named;
 mod noted;
@@ -33,7 +32,6 @@ mod whole;
 mod written;
 
 pub use fault::UnitFault;
-pub use input_scale::InputScale;
 pub use law::{read_texts_keep_meaning, whole_texts_keep_meaning};
 pub use reading::read_in_units;
 pub use unit_query::UnitQuery;

@@ -14,7 +14,6 @@ ghost use Rattle.tilt_unit_text.specs.declared.fault.UnitFault.{UnitFault};
 
 use crate::definitions::unit_definitions;
 use crate::fault::UnitFault;
-use crate::input_scale::InputScale;
 use crate::noted::note_numbers;
 use crate::places::{count_numbers, query_fault};
 use crate::points::{fault_in_text, find_points, without_points};
@@ -25,6 +24,7 @@ use crate::whole::{push_names, whole_query};
 use crate::written::Written;
 use std::alloc::{AllocError as OutOfMemory, Global};
 use tilt_core::Core;
+use tilt_input_scales::Scales;
 use tilt_lexer::{Name, Token, lex};
 use tilt_syntax::{Query, parse};
 use tilt_types::check;
@@ -34,14 +34,10 @@ use tilt_units::{DecimalDef, Scale, Translated, translate};
 /// causes there is a fault. `BadByte`, `BigNumber`: the text without its points has no tokens, at its first faulty place. `BadPoint`,
 /// `ManyDecimals`: a point isn't between two digits of a number, or too many digits come after it, at the first point with a fault.
 /// `Syntax`: the text without its points isn't a query. `TicksWithPoint`: a number of ticks has a point, in the order of statements.
-/// `IllFormed`: the query isn't well formed. `NoScale`: no scale is given for an input, in the order of inputs. `Scale`: the query has
-/// no translation. `WholeTooLarge`: an expression has too many nodes over whole numbers. `WholeTooLong`: a statement takes too many
-/// tokens over whole numbers. Scales of other names than the inputs' are not read. Memory is taken for all tokens of the text.
-pub fn read_in_units(
-    alloc: Global,
-    text: &[u8],
-    scales: &[InputScale],
-) -> Result<UnitQuery, UnitFault>
+/// `IllFormed`: the query isn't well formed. `Scale`: the query has no translation. `WholeTooLarge`: an expression has too many nodes
+/// over whole numbers. `WholeTooLong`: a statement takes too many tokens over whole numbers. Scales of other names than the inputs' are
+/// not read. Memory is taken for all tokens of the text.
+pub fn read_in_units(alloc: Global, text: &[u8], scales: &Scales) -> Result<UnitQuery, UnitFault>
     ensures reads { GivesReading parts_of scales.now text.now result }
 
     // Nothing else is: no other query, and no other fault.
@@ -58,7 +54,7 @@ pub fn read_in_units(
 // The answer for the tokens of a text.
 fn answer(
     alloc: Global,
-    scales: &[InputScale],
+    scales: &Scales,
     points: &[u64],
     tokens: Vec<Token>,
 ) -> Result<UnitQuery, UnitFault>
@@ -86,7 +82,7 @@ fn places_of(alloc: Global, tokens: Vec<Token>) -> Result<Query, UnitFault>
 // What a query is over whole numbers.
 fn query_in_units(
     alloc: Global,
-    scales: &[InputScale],
+    scales: &Scales,
     numbers: &[Written],
     query: &Query,
     places: &Query,
@@ -104,7 +100,7 @@ fn query_in_units(
 // What a query without a fault in its numbers of ticks is over whole numbers.
 fn checked_in_units(
     alloc: Global,
-    scales: &[InputScale],
+    scales: &Scales,
     numbers: &[Written],
     query: &Query,
     places: &Query,
@@ -120,7 +116,7 @@ fn checked_in_units(
 // What a query with a core is over whole numbers, which with each number as its count is this.
 fn core_in_units(
     alloc: Global,
-    scales: &[InputScale],
+    scales: &Scales,
     numbers: &[Written],
     query: &Query,
     places: &Query,

@@ -1,4 +1,4 @@
-use Rattle.std.proofs.Common.{◌≡◌, ◌++◌, Ok, ℕ, List, [], map, sym, ap, ◌∙◌}
+use Rattle.std.proofs.Common.{◌≡◌, ◌++◌, Ok, ℕ, List, length, map, sym, ap, ◌∙◌}
 use Rattle.std.proofs.lemmas.List.Elements.{recursion_from_All}
 use Rattle.tilt_core.specs.CoreTree.{Definition}
 use Rattle.tilt_syntax.specs.Tree.{StatementTree, statement_tree}
@@ -9,7 +9,7 @@ use Rattle.tilt_unit_text.proofs.Chains.{faultless}
 use Rattle.tilt_unit_text.proofs.Frames.{translation_is}
 use Rattle.tilt_unit_text.proofs.WholeWritten.{scales_length, whole_written}
 use Rattle.tilt_unit_text.specs.Numbers.{IsWritten}
-use Rattle.tilt_unit_text.specs.Units.{more_scales, of_scale, unit_definitions}
+use Rattle.tilt_unit_text.specs.Units.{of_scale, scales_for, unit_definitions}
 use Rattle.tilt_unit_text.proofs.reading.core_in_units.Goals as goal
 
 pub whole_query-requires-clause-core : goal.whole_query-requires-clause-core
@@ -49,8 +49,8 @@ whole_query-requires-clause-written c =
     ∙ ap (λ (xs : List ℕ). translated xs (map unit_definition c.deref-3.result.now)) (sym c.deref-2.ensures.value)
     ∙ faultless (of_scale places) (translated c.deref-2.result.now (map unit_definition c.deref-3.result.now)) (query_of c.in_ok-translated.translated)
     c.in_ok-translated.ensures in
-    let given : more_scales c.args.scales.now [] core.inputs ≡ Ok parts =
-    ap (more_scales c.args.scales.now []) (sym c.inputs.ensures.names) ∙ c.in_ok-parts.ensures.gives in
+    let given : parts ≡ scales_for c.args.scales.now core.inputs =
+    c.in_ok-parts.ensures.parts ∙ ap (scales_for c.args.scales.now) c.inputs.ensures.names in
     λ read short. whole_written numbers c.args.query.now places core parts (query_of c.in_ok-translated.translated)
     (recursion_from_All IsWritten numbers c.requires.written) c.requires.placed c.requires.checked c.in_ok-parts.ensures.small
-    (scales_length c.args.scales.now core.inputs parts given) is read short
+    (ap length given ∙ scales_length c.args.scales.now core.inputs) is read short

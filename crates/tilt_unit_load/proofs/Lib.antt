@@ -1,0 +1,4 @@
+pub mod Emitted
+pub mod OneFile
+pub mod Powers
+pub mod Reported

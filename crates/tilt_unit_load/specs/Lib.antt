@@ -1,0 +1,2 @@
+pub mod UnitFile
+pub mod UnitReport
