@@ -3,7 +3,6 @@ from __future__ import annotations
 
 import concurrent.futures
 import contextlib
-import dataclasses
 import errno
 import fcntl
 import json
@@ -24,18 +23,19 @@ import pytest
 from conftest import PROGRAM, PYTHON, TOP, run_program
 from queries import Draw
 
-from tilt_data import Query, Refused, blocks, engine, parts, scale, tasks
+from tilt_data import Query, Refused, engine, parts, ranges, scale, tasks
 from tilt_data.errors import TiltError
 from tilt_data.files import keys_and_files, placed
 from tilt_data.forms import fault_of
 from tilt_data.parts import Domain, Part
-from tilt_data.program import Cancelled, Processes
+from tilt_data.program import Called, Cancelled, Processes
 from tilt_data.scaling import Plan, files_of
 from tilt_data.tokens import tokens_of
 
 HEADER = "start,end,value\n"
 FAR = 4 * 10**18
 DASK = "python3-distributed"
+QUOTED = '"start","end","value"\n'
 
 
 @pytest.fixture
@@ -70,34 +70,38 @@ def series(seed: int, end: int, step: int, values: int = 1000, begin: int = 0) -
 
 
 def planned(query: str | os.PathLike[str] | Query, out: str = "out", **inputs: str | list[str]) -> Plan:
-    """A plan whose indexes are made."""
     query = query if isinstance(query, Query) else Query(query)
-    plan = Plan(query, {name: [files] if isinstance(files, str) else files for name, files in inputs.items()}, out, None)
-    for indexing in plan.unindexed():
-        assert tasks.make_indexes(indexing).status == 0
-    return plan
+    return Plan(query, {name: [files] if isinstance(files, str) else files for name, files in inputs.items()}, out)
 
 
-def made(plan: Plan, key: str, ticks: list[int]) -> str:
-    """What a key's parts come to, by the functions of the workers, where the domain is cut at these ticks."""
-    plan.cut_at(key, ticks, len(ticks) + 1)
-    found = list(plan.tasks(key))
+def tasks_at(plan: Plan, ticks: list[int], key: str = "") -> list[tasks.Task]:
+    """The parts of a key where the domain is cut at these ticks."""
+    return plan.tasks(key, plan.cut_at(ticks, len(ticks) + 1))
+
+
+def made(plan: Plan, ticks: list[int]) -> str:
+    """What the parts come to, by the functions of the workers, where the domain is cut at these ticks."""
+    found = tasks_at(plan, ticks)
     for task in found:
-        done = tasks.make_part(task)
-        assert (done.line, done.status) == ("", 0)
-    whole = plan.whole_file(key)
-    assert tasks.make_whole(tasks.Joining(key, tuple((task.part, task.file) for task in found), whole)).status == 0
+        done = tasks.make_parts(plan.batch(task))
+        assert (done.line, done.status, len(done.parts)) == ("", 0, 1)
+    whole = plan.whole_file("")
+    assert tasks.make_whole(tasks.Joining("", tuple((task.part, task.file) for task in found), whole)).status == 0
     return pathlib.Path(whole).read_text()
 
 
-def even(plan: Plan, key: str, count: int) -> list[int]:
-    """Ticks that part the rows of a key evenly; where too many of them come to one place on the grid, grid points that part the domain."""
-    met = [block for files in plan.indexed(key).values() for one in files for block in one.blocks]
-    ticks, domain = blocks.ticks_by_rows(met, count), plan.domain
+def even(plan: Plan, count: int) -> list[int]:
+    """Ticks that part the rows evenly; where too many of them come to one place on the grid, grid points that part the domain."""
+    met = [piece for files in plan.inputs("").values() for one in files for piece in pieces_of(one)]
+    ticks, domain = ranges.ticks_by_rows(met, count), plan.domain
     steps = (domain.end - domain.start) // domain.period
     if len(domain.cuts(ticks)[0]) == count - 1:
         return ticks
     return [domain.start + at * steps // count * domain.period for at in range(1, count)]
+
+
+def pieces_of(series: ranges.Series) -> list[ranges.Piece]:
+    return ranges.pieces_of(ranges.Range(series, series.begin, series.end), 1, 1)
 
 
 # Without the program: where a domain may be cut
@@ -201,35 +205,48 @@ def test_long_parts_are_joined(tmp_path):
     assert joined(tmp_path, (0, cut, lines[0]), (cut - 1, 60000, lines[1])) == lines[2]
 
 
-# Without the program: the index of files
+# Without the program: where the rows of a stretch are
 
 
 def rows_in_stretch(rows, low: int, high: int):
     return [row for row in rows if row[1] > low and row[0] < high]
 
 
-def read_back(indexed: blocks.Indexed, low: int, high: int) -> bytes:
-    found = b""
-    for segment in blocks.stretch_of([indexed], low, high):
-        data = blocks.bytes_of(segment)
-        begin, end, _ = blocks.trimmed(data, low, high)
-        found += data[begin:end]
+def known(path: pathlib.Path) -> ranges.Series:
+    """What is known of a file with rows; its plain copy, if it has one, is in `plain` beside it."""
+    found = ranges.series_of(str(path), str(path.parent / "plain"))
+    assert found is not None
     return found
 
 
-def test_only_the_rows_of_a_stretch_are_read(tmp_path):
+def read_back(series: ranges.Series, low: int, high: int) -> str:
+    """The rows of a stretch as they are handed to the program."""
+    its = ranges.meeting([series], low, high)
+    stretch = tasks.Stretch("x", low, high, its)
+    found = tasks.ranges_of(stretch, os.path.join(os.path.dirname(series.path), "plain"), Processes())
+    if tasks.is_whole(found):
+        return pathlib.Path(series.file).read_bytes().decode("utf-8-sig").replace("\r", "")
+    with tasks.Feeds() as feeds:
+        return pathlib.Path(feeds.begin(found)).read_bytes().decode().replace("\r", "")
+
+
+def test_only_the_rows_of_a_stretch_are_read(tmp_path, monkeypatch):
     rows = series(1, 20000, 7)
     path = tmp_path / "x.csv"
     path.write_text(text_of(rows))
-    indexed = blocks.make_index(str(path), str(tmp_path / "index"))
-    assert indexed.rows == len(rows) and len(indexed.blocks) > 30 and indexed.file == str(path)
+    found = known(path)
+    assert (found.first, found.last, found.file) == (rows[0][:2], rows[-1][:2], str(path))
+    assert (found.begin, found.end) == (len(HEADER), os.path.getsize(path)) and abs(found.width * len(rows) / found.end - 1) < 0.1
+    read, pread = [], os.pread
+    monkeypatch.setattr(os, "pread", lambda handle, count, at: read.append(count) or pread(handle, count, at))
     draws = random.Random(2)
     for _ in range(100):
         low = draws.randrange(-50, 20050)
         high = low + 1 + draws.randrange(draws.choice([2, 500, 20000]))
-        assert read_back(indexed, low, high).decode() == text_of(rows_in_stretch(rows, low, high))[len(HEADER) :]
-        bytes_read = sum(segment.length for segment in blocks.stretch_of([indexed], low, high))
-        assert bytes_read <= len(read_back(indexed, low, high)) + 2 * max(block.length for block in indexed.blocks)
+        assert read_back(found, low, high) == text_of(rows_in_stretch(rows, low, high))
+        # Each end is found by halving.
+        assert sum(read) < 2 * 20 * ranges.LINE
+        read.clear()
 
 
 @pytest.mark.parametrize(
@@ -239,18 +256,28 @@ def test_only_the_rows_of_a_stretch_are_read(tmp_path):
         ("\ufeffstart,end,value\r\n0,5,7\r\n\r\n6,8,\r\n", [(0, 5, 7), (6, 8, None)]),
         ('"start","end","value"\n0,"5",7\n', [(0, 5, 7)]),
         ("start,end,value\r0,5,7\r6,8,9\r", [(0, 5, 7), (6, 8, 9)]),
-        (HEADER, []),
+        (HEADER + "0,5,7\r6,8,9\n\n\n", [(0, 5, 7), (6, 8, 9)]),
+        (HEADER + '0,5,7\n"6",8,9\n9,12,1\n', [(0, 5, 7), (6, 8, 9), (9, 12, 1)]),
+        (HEADER + "0,5,7\n" + "\n" * 5000 + "6,8,9\n" + "\r\n" * 9000, [(0, 5, 7), (6, 8, 9)]),
+        (HEADER + "0," + "0" * 300 + "5,7\n6,8,9\n", [(0, 5, 7), (6, 8, 9)]),
         (HEADER + "\n\n+0,005,-7\n", [(0, 5, -7)]),
         ("\n" + HEADER + "0,5,7\n", [(0, 5, 7)]),
     ],
+    ids=range(10),
 )
 def test_files_as_spreadsheets_write_them(tmp_path, text, rows):
     path = tmp_path / "x.csv"
     path.write_bytes(text.encode())
-    indexed = blocks.make_index(str(path), str(tmp_path / "index"))
-    lines = read_back(indexed, -10, 10).decode().replace("\r", "").split()
-    assert [tuple(int(field) if field else None for field in line.split(",")) for line in lines] == rows
-    assert blocks.found_index(str(path), str(tmp_path / "index")) == indexed
+    found = known(path)
+    for low, high in [(-10, 20), *((low, high) for low in range(-1, 13) for high in range(low + 1, 14))]:
+        lines = read_back(found, low, high).replace('"', "").split()
+        assert [tuple(int(field) if field else None for field in line.split(",")) for line in lines[1:]] == rows_in_stretch(rows, low, high)
+
+
+@pytest.mark.parametrize("text", [HEADER, HEADER.rstrip(), "\ufeff" + HEADER + "\r\n\n", QUOTED, "start,end,value\r"])
+def test_files_without_rows(tmp_path, text):
+    (tmp_path / "x.csv").write_text(text)
+    assert ranges.series_of(str(tmp_path / "x.csv"), str(tmp_path / "plain")) is None
 
 
 @pytest.mark.parametrize(
@@ -260,8 +287,8 @@ def test_files_as_spreadsheets_write_them(tmp_path, text, rows):
         (HEADER + "0,5,7\n4,8,9.5\n", "x.csv:3: a row"),
         (HEADER + "0,5\n", "x.csv:2: a row"),
         (HEADER + "\n0,5,7\n9\n", "x.csv:4: a row"),
-        (HEADER + "7,9,1\n0,5,1\n", "x.csv:3: a row that starts at 9"),
-        (HEADER + "".join(f"{at},{at + 1},7\n" for at in [*range(1000, 1060), *range(60)]), "x.csv:62: a row that starts at 1060"),
+        (HEADER + "7,9,1\n0,5,1\n", "x.csv:3: rows in order"),
+        (HEADER + "".join(f"{at},{at + 1},7\n" for at in [*range(1000, 1060), *range(60)]), "x.csv:62: rows in order"),
     ],
     ids=range(6),
 )
@@ -269,31 +296,50 @@ def test_files_that_are_no_series(tmp_path, text, told):
     path = tmp_path / "x.csv"
     path.write_text(text)
     with pytest.raises(Refused, match=told):
-        blocks.make_index(str(path), str(tmp_path))
+        known(path)
 
 
-def test_an_index_is_made_once_and_anew_where_the_file_has_changed(tmp_path):
-    path = tmp_path / "x.csv"
-    path.write_text(text_of(series(1, 100, 3)))
-    indexed = blocks.make_index(str(path), str(tmp_path))
-    assert blocks.found_index(str(path), str(tmp_path)) == indexed
-    path.write_text(text_of(series(1, 200, 3)))
-    assert blocks.found_index(str(path), str(tmp_path)) is None
-    with pytest.raises(Refused, match="changed after its index was made"):
-        blocks.bytes_of(next(blocks.stretch_of([indexed], 0, 100)))
+def test_rows_that_are_out_of_order_are_rejected(here):
+    """As where files were put together in a wrong order: whatever stretch is read, none of the rows that it needs is left out silently."""
+    blocks_of_rows = [[(at, at + 1, at) for at in range(begin, begin + 1000)] for begin in (0, 2000, 1000, 3000)]
+    path = here / "x.csv"
+    path.write_text(text_of([row for some in blocks_of_rows for row in some]))
+    for end in range(500, 4000, 500):
+        for part_rows in (300, 10**6):
+            with pytest.raises(Refused, match="x.csv:2002: rows in order were expected|tilt: 15 series x: "):
+                scale(f"input x; emit x over (0, {end}];", {"x": "x.csv"}, f"out{end}", workers=1, part_rows=part_rows)
+            if end < 2000:
+                break
+
+
+def test_between_two_parts_no_row_is_left_out(tmp_path):
+    """Whatever the order of the rows is: so one of the parts has each, and its program rejects those that are out of order."""
+    draws = random.Random(4)
+    for number in range(20):
+        ticks = list(range(100))
+        for _ in range(number):
+            at, to = draws.randrange(1, 99), draws.randrange(1, 99)
+            ticks[at], ticks[to] = ticks[to], ticks[at]
+        path = tmp_path / f"{number}.csv"
+        path.write_text(text_of([(at * 3, at * 3 + draws.randrange(1, 4), at) for at in ticks]))
+        found = known(path)
+        for low in range(draws.randrange(5), 300, 5):
+            high = low + draws.choice([1, 2, 5, 40])
+            before, after = ranges.range_of(found, -1, high), ranges.range_of(found, low, 400)
+            assert before.begin == found.begin and after.end == found.end and after.begin <= before.end
 
 
 def settled(path: pathlib.Path, text: str) -> str:
     """Writes a file, and waits until no change of it can be missed."""
     path.write_text(text)
-    assert blocks.settled_stamp(str(path)) == blocks.stamp_of(str(path))
+    assert ranges.settled_stamp(str(path)) == ranges.stamp_of(str(path))
     return str(path)
 
 
 def test_a_stamp_is_settled_once_another_change_gives_other_times():
     fine, coarse = 10**18 + 7, 10**18
-    assert [blocks.is_settled((1, 0, fine, 1), fine + more) for more in (0, blocks.FINE - 1, blocks.FINE)] == [False, False, True]
-    assert [blocks.is_settled((1, 0, coarse, 1), coarse + more) for more in (blocks.FINE, blocks.COARSE - 1, blocks.COARSE)] == [
+    assert [ranges.is_settled((1, 0, fine, 1), fine + more) for more in (0, ranges.FINE - 1, ranges.FINE)] == [False, False, True]
+    assert [ranges.is_settled((1, 0, coarse, 1), coarse + more) for more in (ranges.FINE, ranges.COARSE - 1, ranges.COARSE)] == [
         False,
         False,
         True,
@@ -303,51 +349,12 @@ def test_a_stamp_is_settled_once_another_change_gives_other_times():
 def test_a_file_that_was_written_now_settles_and_one_of_the_future_does_not(tmp_path, monkeypatch):
     path = tmp_path / "x.csv"
     path.write_text("")
-    stamp = blocks.settled_stamp(str(path))
-    assert stamp == blocks.stamp_of(str(path)) and blocks.is_settled(stamp, time.time_ns())
-    times = iter(range(stamp[2] - 1, 0, -1))
-    monkeypatch.setattr(time, "time_ns", lambda: next(times))
-    assert blocks.settled_stamp(str(path)) is None and next(times) == stamp[2] - 2
-
-
-def test_a_whole_file_is_known_by_its_first_and_its_last_row(tmp_path):
-    rows = series(1, 200000, 3)
-    path = settled(tmp_path / "x.csv", text_of(rows))
-    indexed = blocks.whole_index(path, 0, 200000)
-    (block,) = indexed.blocks
-    assert (block.first, block.last) == (rows[0][0], rows[-1][1]) and abs(block.rows / len(rows) - 1) < 0.1
-    assert (block.offset, block.offset + block.length) == (len(HEADER), os.path.getsize(path)) and indexed.whole and indexed.settled
-    # The first row and the last one each have a tick in the stretch, or it is None.
-    assert blocks.whole_index(path, rows[0][1] - 1, rows[-1][0] + 1) is not None
-    assert blocks.whole_index(path, rows[0][1], 200000) is None and blocks.whole_index(path, 0, rows[-1][0]) is None
-    # Another file of the same bytes has another digest, and so has this one once it is written again.
-    other = settled(tmp_path / "y.csv", text_of(rows))
-    digests = {block.digest, blocks.whole_index(other, 0, 200000).blocks[0].digest}
-    settled(tmp_path / "x.csv", text_of(rows))
-    assert len({*digests, blocks.whole_index(path, 0, 200000).blocks[0].digest}) == 3
-
-
-@pytest.mark.parametrize(
-    "text, rows",
-    [
-        (HEADER + "0,5,7\n", 1),
-        (HEADER + "0,5,7\n5,6,\n6,8,-9", 3),
-        ("\ufeffstart,end,value\r\n0,5,7\r\n6,8,9\r\n", 2),
-        (HEADER, None),
-        ("", None),
-        ("start,end\n0,5\n", None),
-        ('"start",end,value\n0,5,7\n', None),
-        (HEADER + '0,5,7\n"6",8,9\n', None),
-        (HEADER + '0,5,7\n"6",8,9\n9,10,1\n', None),
-        (HEADER + "\n0,5,7\n", None),
-        (HEADER + "0,5,7\n\n", None),
-        (HEADER + "0,5,7\rx\n", None),
-        (HEADER.replace("\n", "\r") + "0,5,7\r", None),
-    ],
-)
-def test_a_file_that_is_not_plain_at_its_ends_needs_an_index(tmp_path, text, rows):
-    indexed = blocks.whole_index(settled(tmp_path / "x.csv", text), -10, 20)
-    assert (indexed and indexed.rows) == rows
+    stamp = ranges.settled_stamp(str(path))
+    assert stamp == ranges.stamp_of(str(path)) and ranges.is_settled(stamp, time.time_ns())
+    monkeypatch.setattr(time, "time_ns", lambda: stamp[2] - 1)
+    monkeypatch.setattr(time, "sleep", lambda _: None)
+    with pytest.raises(Refused, match="x.csv: it is written to, or the clock of its file system is ahead"):
+        ranges.settled_stamp(str(path))
 
 
 def write_over(path: pathlib.Path, text: str, times: tuple[int, int]) -> None:
@@ -363,7 +370,8 @@ def test_a_file_of_the_same_size_and_time_is_noticed(tmp_path, replace):
     path, times = tmp_path / "x.csv", (10**18, 10**18)
     path.write_text(HEADER + "0,5,3\n")
     os.utime(path, ns=times)
-    blocks.make_index(str(path), str(tmp_path))
+    found = known(path)
+    ranges.check_stamp(found)
     if replace:
         other = tmp_path / "other"
         write_over(path, HEADER + "0,5,3\n", times)
@@ -373,34 +381,8 @@ def test_a_file_of_the_same_size_and_time_is_noticed(tmp_path, replace):
     else:
         write_over(path, HEADER + "0,5,9\n", times)
     assert (path.stat().st_size, path.stat().st_mtime_ns) == (len(HEADER) + 6, 10**18)
-    assert blocks.found_index(str(path), str(tmp_path)) is None
-
-
-@pytest.mark.parametrize("wrong", ["0,5,7\n\n\n6,8,8\n", "0,5,7\n\n1,\n,8,9\n", "0,5,6\n\n\n6,8,9\n", "0,5,7\n\n\n6,8,9"])
-def test_bytes_that_the_index_was_not_made_of(tmp_path, wrong):
-    """A stamp can't show all changes: the bytes do."""
-    path = tmp_path / "x.csv"
-    path.write_text(HEADER + "0,5,7\n\n\n6,8,9\n")
-    indexed = blocks.make_index(str(path), str(tmp_path))
-    segment = next(blocks.stretch_of([indexed], 0, 10))
-    assert blocks.bytes_of(segment) == b"0,5,7\n\n\n6,8,9\n"
-    path.write_text(HEADER + wrong)
-    with pytest.raises(Refused, match="changed after its index was made"):
-        blocks.bytes_of(dataclasses.replace(segment, file_stamp=blocks.stamp_of(str(path))))
-
-
-def test_what_lies_between_blocks_is_read_too(tmp_path):
-    """Empty lines that are longer than a block belong to none."""
-    path = tmp_path / "x.csv"
-    empty = "\n" * 3000
-    path.write_text(HEADER + "0,5,7\n" + empty + "6,8,9\n")
-    indexed = blocks.make_index(str(path), str(tmp_path))
-    segment = next(blocks.stretch_of([indexed], 0, 10))
-    assert len(segment.blocks) == 2 and sum(block.length for block in segment.blocks) < 1500 < segment.length
-    assert blocks.bytes_of(segment).decode() == "0,5,7\n" + empty + "6,8,9\n"
-    path.write_text(HEADER + "0,5,7\n" + empty[:1500] + "5,6,1\n" + empty[1506:] + "6,8,9\n")
-    with pytest.raises(Refused, match="changed after its index was made"):
-        blocks.bytes_of(dataclasses.replace(segment, file_stamp=blocks.stamp_of(str(path))))
+    with pytest.raises(Refused, match="x.csv: it was changed while the call ran: call again"):
+        ranges.check_stamp(found)
 
 
 @pytest.mark.parametrize(
@@ -410,6 +392,7 @@ def test_what_lies_between_blocks_is_read_too(tmp_path):
         (b"+0,005,-7\n", (0, 5)),
         (b"-3,5,\r\n", (-3, 5)),
         (b"-4000000000000000000,4000000000000000000,", (-FAR, FAR)),
+        (b"5,5,7", None),
         (b"1_0,20,7", None),
         (b" 0,5,7", None),
         (b"0,5 ,7", None),
@@ -431,10 +414,25 @@ def test_what_lies_between_blocks_is_read_too(tmp_path):
     ],
 )
 def test_rows_are_parsed_as_the_program_does(line, times):
-    assert blocks.times_of(line) == times
+    assert ranges.times_of(line) == times
 
 
-QUOTED = '"start","end","value"\n'
+def test_a_file_that_is_not_plain_is_copied_once(tmp_path):
+    path, folder = tmp_path / "x.csv", str(tmp_path / "plain")
+    path.write_text(QUOTED + "0,5,7\n")
+    found = known(path)
+    assert found.file.startswith(folder) and pathlib.Path(found.file).read_text() == HEADER + "0,5,7\n"
+    stamp = os.stat(found.file)
+    assert known(path) == found and os.stat(found.file) == stamp
+    # One of the file as it was goes away.
+    settled(path, QUOTED + "0,5,8\n")
+    assert pathlib.Path(known(path).file).read_text() == HEADER + "0,5,8\n" and len(os.listdir(folder)) == 1
+    # It may turn out late that a file isn't plain.
+    settled(path, HEADER + "0,1,1\n" * 1 + "".join(f'{at},"{at + 1}",1\n' for at in range(1, 2000)) + "2000,2001,1\n")
+    found = known(path)
+    assert found.file == str(path) and read_back(found, 700, 702) == HEADER + "700,701,1\n701,702,1\n"
+    with pytest.raises(ranges.NotPlain):
+        ranges.range_of(found, 700, 702)
 
 
 def test_a_full_disk_is_no_fault_of_a_series_that_is_written_plainly(tmp_path, monkeypatch):
@@ -443,35 +441,34 @@ def test_a_full_disk_is_no_fault_of_a_series_that_is_written_plainly(tmp_path, m
         with open("/dev/full", "wb", buffering=0) as file:
             yield file
 
-    path, folder = tmp_path / "x.csv", str(tmp_path / "index")
+    path = tmp_path / "x.csv"
     path.write_text(QUOTED + "0,5,7\n")
     with monkeypatch.context() as patched:
-        patched.setattr(blocks, "placed", full)
+        patched.setattr(ranges, "placed", full)
         # A task that ends by an error is begun again; a refusal is told at once.
         with pytest.raises(OSError) as caught:
-            tasks.make_indexes(tasks.Indexing((str(path),), folder))
+            known(path)
         assert caught.value.errno == errno.ENOSPC
-    assert tasks.make_indexes(tasks.Indexing((str(path),), folder)).status == 0
-    assert read_back(blocks.make_index(str(path), folder), 0, 5) == b"0,5,7\n"
+    assert read_back(known(path), 0, 5) == HEADER + "0,5,7\n"
     path.write_text(QUOTED + "0,5,7\n5,6\n")
-    assert tasks.make_indexes(tasks.Indexing((str(path),), folder)).line.startswith(f"{path}:3: a row start,end,value")
+    with pytest.raises(Refused, match="x.csv:3: a row start,end,value"):
+        known(path)
 
 
 def test_files_of_an_input_do_not_overlap(tmp_path):
     found = []
-    for name, begin in (("b", 100), ("a", 0), ("empty", 400), ("c", 250)):
-        (tmp_path / name).write_text(text_of(series(3, begin + 150 if name != "empty" else begin, 5, begin=begin)))
-        found.append(blocks.make_index(str(tmp_path / name), str(tmp_path)))
-    assert [os.path.basename(one.path) for one in blocks.in_order([found[0], found[2], found[3]])] == ["b", "c"]
+    for name, begin in (("b", 100), ("a", 0), ("c", 250)):
+        (tmp_path / name).write_text(text_of(series(3, begin + 150, 5, begin=begin)))
+        found.append(known(tmp_path / name))
+    assert [os.path.basename(one.path) for one in ranges.in_order([found[2], found[0]])] == ["b", "c"]
     with pytest.raises(Refused, match="b: its rows begin at 1.., before those of .*a end"):
-        blocks.in_order(found)
+        ranges.in_order(found)
 
 
 def test_cuts_are_chosen_by_rows_and_gaps_cost_nothing(tmp_path):
     rows = series(1, 5000, 2) + [(s + 10**15, e + 10**15, v) for s, e, v in series(2, 5000, 2)] + [(4 * 10**18 - 1, 4 * 10**18, 5)]
     (tmp_path / "x").write_text(text_of(rows))
-    indexed = blocks.make_index(str(tmp_path / "x"), str(tmp_path))
-    ticks = blocks.ticks_by_rows(indexed.blocks, 10)
+    ticks = ranges.ticks_by_rows(pieces_of(known(tmp_path / "x")), 10)
     sizes = [len([row for row in rows if low <= row[0] < high]) for low, high in zip([0, *ticks], [*ticks, 5 * 10**18])]
     assert len(sizes) == 10 and ticks == sorted(ticks) and max(sizes) < 1.25 * len(rows) / 10 and min(sizes) > 0.75 * len(rows) / 10
 
@@ -569,8 +566,9 @@ def in_1_to_20_parts(query: pathlib.Path) -> set[int]:
     most = min(20, (plan.domain.end - plan.domain.start) // plan.domain.period)
     counts = set()
     for count in range(1, most + 1):
-        assert made(plan, "", even(plan, "", count)) == wanted
-        counts.add(len(plan.cuts[""]) + 1)
+        ticks = even(plan, count)
+        assert made(plan, ticks) == wanted
+        counts.add(len(plan.cut_at(ticks, count)))
     assert counts == set(range(1, most + 1))
     return counts
 
@@ -629,12 +627,11 @@ def compare(seed: int, folder: pathlib.Path) -> set[str]:
     # One that stands where a snapshot of the whole ends, so that marks at joints are met.
     lines = [line.split(",") for line in wanted.splitlines()[1:]]
     ticks = sorted({*ticks, int(draws.choice(lines)[1])}) if lines else ticks
-    assert made(plan, "", ticks) == wanted, (seed, text, ticks)
-    return seen(plan, text, lines)
+    assert made(plan, ticks) == wanted, (seed, text, ticks)
+    return seen(plan, text, lines, set(plan.domain.cuts(ticks)[0]))
 
 
-def seen(plan: Plan, text: str, rows: list[list[str]]) -> set[str]:
-    cuts = set(plan.cuts[""])
+def seen(plan: Plan, text: str, rows: list[list[str]], cuts: set[int]) -> set[str]:
     found = {"cut"} if cuts else set()
     found |= {"grid"} if plan.domain.period > 1 else set()
     ahead = any(need is not None and need[1] >= plan.domain.period for need in plan.needs.values())
@@ -682,68 +679,83 @@ def test_queries_whose_output_rests_on_no_rows(here, query):
     pathlib.Path("x.csv").write_text(HEADER)
     files = {"x": "x.csv"} if "input" in query else {}
     plan = planned(query, **files)
-    plan.cut("", 10)
-    assert plan.cuts == {"": []}
-    assert made(plan, "", [3, 4, 5, 9]) == run_program(str(PROGRAM), query, *(f"{name}={file}" for name, file in files.items()))
+    assert plan.cut("", 10) == [Part(1, plan.domain.start, plan.domain.end)]
+    assert made(plan, [3, 4, 5, 9]) == run_program(str(PROGRAM), query, *(f"{name}={file}" for name, file in files.items()))
 
 
-def test_a_part_reads_only_the_rows_that_it_needs(here):
+def handed(plan: Plan, task: tasks.Task, monkeypatch) -> dict[str, tuple[str, str]]:
+    """The file of each input that the program gets for a part, and its text."""
+    found = {}
+
+    def call(_: Processes, words: list[str], out: int, handed: list[int]) -> Called:
+        for word in words[2:]:
+            name, _, path = word.partition("=")
+            found[name] = path, pathlib.Path(path).read_text()
+        return Called(0, "")
+
+    with monkeypatch.context() as patched:
+        patched.setattr(Processes, "call", call)
+        assert tasks.make_parts(plan.batch(task)).status == 0
+    return found
+
+
+def test_a_part_reads_only_the_rows_that_it_needs(here, monkeypatch):
     rows = series(1, 40000, 5)
     pathlib.Path("x.csv").write_text(text_of(rows))
     plan = planned("input x; input u; let m = max(x[t-30:t-10]); emit x[t+7] - m over (0, 40000];", x="x.csv", u="x.csv")
-    plan.cut_at("", [20000, 20100], 3)
-    middle = list(plan.tasks(""))[1]
+    middle = tasks_at(plan, [20000, 20100])[1]
     x, u = middle.inputs
-    assert (x.low, x.high) == (20000 - 1 - 29, 20100 + 7) and not u.segments
-    words, count = tasks.laid_out(middle, str(here))
+    assert (x.low, x.high) == (20000 - 1 - 29, 20100 + 7) and not u.files
     wanted = rows_in_stretch(rows, x.low, x.high)
-    assert pathlib.Path(words[1].partition("=")[2]).read_text() == text_of(wanted) and count == len(wanted) < 60
-    assert pathlib.Path(words[2].partition("=")[2]).read_text() == HEADER
+    found = handed(plan, middle, monkeypatch)
+    assert found["x"][1] == text_of(wanted) and len(wanted) < 60 and found["u"][1] == HEADER
 
 
-def test_a_file_of_which_all_rows_are_needed_is_an_argument_itself(here):
+def test_a_file_of_which_all_rows_are_needed_is_an_argument_itself(here, monkeypatch):
     rows = series(1, 30000, 5)
     pathlib.Path("x.csv").write_text(text_of(rows))
     plan = planned("input x; emit x over (0, 30000];", x="x.csv")
-    plan.cut_at("", [], 1)
-    task = next(plan.tasks(""))
-    assert tasks.laid_out(task, str(here)) == ([str(here / "query.tilt"), f"x={here}/x.csv"], len(rows))
-    pathlib.Path("x.csv").write_text(text_of(series(2, 30000, 5)))
-    with pytest.raises(Refused, match="it was changed after its index was made: call again"):
-        blocks.check_stamp(task.inputs[0].segments[0])
+    assert handed(plan, tasks_at(plan, [])[0], monkeypatch) == {"x": (f"{here}/x.csv", text_of(rows))}
     # A part of the rows is copied.
-    pathlib.Path("x.csv").write_text(text_of(rows))
     plan = planned("input x; emit x over (0, 100];", x="x.csv")
-    plan.cut_at("", [], 1)
-    assert tasks.laid_out(next(plan.tasks("")), str(here))[0][1] == f"x={here}/rows.x.csv"
+    path, text = handed(plan, tasks_at(plan, [])[0], monkeypatch)["x"]
+    assert path != f"{here}/x.csv" and text == text_of(rows_in_stretch(rows, 0, 100))
 
 
-def test_small_files_have_no_stored_index(here):
-    pathlib.Path("x.csv").write_text(text_of(series(1, 100, 5)))
-    pathlib.Path("y.csv").write_text(QUOTED + "0,5,7\n")
-    plan = planned("input x; input y; emit x + y over (0, 100];", x="x.csv", y="y.csv")
-    assert {os.path.basename(path) for path in plan.stamps} == {"x.csv"} and len(os.listdir("out/index")) == 2
-    assert [one.path for one in plan.indexed("")["x"]] == [str(here / "x.csv")]
+def test_files_of_an_input_are_joined(here, monkeypatch):
+    """One of them has no end of line at its end, and one no rows."""
+    rows = series(1, 300, 5)
+    for name, low, high in (("a", 0, 100), ("b", 100, 200), ("c", 200, 300)):
+        pathlib.Path(f"{name}.csv").write_text(text_of([row for row in rows if low <= row[0] < high]).rstrip())
+    pathlib.Path("d.csv").write_text(HEADER)
+    plan = planned("input x; emit x over (20, 280];", x=["c.csv", "a.csv", "d.csv", "b.csv"])
+    assert handed(plan, tasks_at(plan, [])[0], monkeypatch)["x"][1] == text_of(rows_in_stretch(rows, 20, 280))
 
 
 def test_the_name_of_a_part_tells_query_rows_and_program(here, monkeypatch):
     pathlib.Path("x.csv").write_text(text_of(series(1, 40000, 5)))
+    paths = ["x.csv"]
 
     def files(query: str) -> list[str]:
-        plan = planned(query, x="x.csv")
-        plan.cut_at("", [10000, 20000, 30000], 4)
-        return [task.file for task in plan.tasks("")]
+        plan = planned(query, x=paths)
+        return [task.file for task in tasks_at(plan, [10000, 20000, 30000])]
 
+    pathlib.Path("y.csv").write_text(text_of(series(1, 50000, 5, begin=40000)))
     query = "input x; emit sum(x[t-100:t]) over (0, 40000];"
     before = files(query)
     assert files(query) == before and len(set(before)) == 4
-    # A longer domain leaves the names of the parts before its last cut, other rows those that don't rest on them.
+    # A longer domain leaves the names of the parts before its last cut, other files those that don't rest on them.
     assert files(query.replace("40000", "50000"))[:3] == before[:3]
     assert not set(files(query.replace("100", "99"))) & set(before)
-    text = pathlib.Path("x.csv").read_text()
-    pathlib.Path("x.csv").write_text(text[:-200] + text[-200:].replace(",9", ",8"))
+    paths.append("y.csv")
+    assert files(query) == before
+    longer = query.replace("40000", "50000")
+    after = files(longer)
+    settled(here / "y.csv", text_of(series(2, 50000, 5, begin=40000)))
+    assert files(longer)[:3] == after[:3] == before[:3] and files(longer)[3] != after[3]
+    os.utime("x.csv")
+    assert not set(files(longer)) & set(after)
     after = files(query)
-    assert after[:3] == before[:3] and after[3] != before[3]
     other = here / "other"
     other.write_text(f"#!/bin/sh\nexec {os.environ['TILT']} \"$@\"\n")
     other.chmod(0o755)
@@ -758,46 +770,43 @@ def test_parts_of_files_as_spreadsheets_write_them(here):
     text = (folder / "query.tilt").read_text()
     wanted = run_program(str(PROGRAM), text, *(f"{name}={file}" for name, file in files.items()))
     plan = planned(text, **files)
-    assert {os.path.basename(one.path): one.file == one.path for its in plan.indexed("").values() for one in its} == {
+    assert {os.path.basename(one.path): one.file == one.path for its in plan.inputs("").values() for one in its} == {
         "limit.csv": True,
         "temperature.csv": False,
     }
     for ticks in ([30], [10, 20, 30, 40, 50], list(range(1, 60, 7))):
-        assert made(plan, "", ticks) == wanted
+        assert made(plan, ticks) == wanted
 
 
-def test_a_file_that_was_changed_after_its_index_was_made(here):
-    pathlib.Path("x.csv").write_text(text_of(series(1, 100, 5)))
-    plan = planned("input x; emit x over (0, 100];", x="x.csv")
-    plan.cut_at("", [50], 2)
-    task = next(plan.tasks(""))
-    pathlib.Path("x.csv").write_text(text_of(series(2, 100, 5)))
-    done = tasks.make_part(task)
-    assert (done.line, done.status) == (f"{here}/x.csv: it was changed after its index was made: call again", 1)
-    assert not os.path.exists(task.file)
-    with pytest.raises(Refused, match="it was changed after its index was made: call again"):
-        plan.cut("", 10)
+def test_a_file_that_was_changed_meanwhile(here):
+    """With a row that the program rejects too: what it says of other rows than those of the call helps nobody."""
+    for text in (text_of(series(2, 100, 5)), HEADER + "5,3,1\n" + "0,1,2\n" * 100):
+        pathlib.Path("x.csv").write_text(text_of(series(1, 100, 5)))
+        plan = planned("input x; emit x over (0, 100];", x="x.csv")
+        task = tasks_at(plan, [50])[0]
+        pathlib.Path("x.csv").write_text(text)
+        done = tasks.make_parts(plan.batch(task))
+        assert (done.line, done.status) == (f"{here}/x.csv: it was changed while the call ran: call again", 1)
+        assert not os.path.exists(task.file)
 
 
 def test_a_worker_makes_no_part_that_is_there(here):
     """As where two workers were handed one part, since one of them was thought lost."""
     pathlib.Path("x.csv").write_text(text_of(series(1, 100, 5)))
     plan = planned("input x; emit x over (0, 100];", x="x.csv")
-    plan.cut_at("", [], 1)
-    task = next(plan.tasks(""))
-    assert tasks.make_part(task).rows > 0
+    (task,) = tasks_at(plan, [])
+    assert tasks.make_parts(plan.batch(task)).parts[0].bytes == os.path.getsize("x.csv") - len(HEADER)
     stamp = os.stat(task.file)
-    assert tasks.make_part(task) == tasks.Made() and os.stat(task.file) == stamp
+    assert tasks.make_parts(plan.batch(task)) == tasks.Made(parts=(tasks.Made(),)) and os.stat(task.file) == stamp
 
 
 def test_another_program_at_the_worker_is_refused(here, monkeypatch):
     pathlib.Path("x.csv").write_text(text_of(series(1, 100, 5)))
     plan = planned("input x; emit x over (0, 100];", x="x.csv")
-    plan.cut_at("", [], 1)
-    task = next(plan.tasks(""))
+    (task,) = tasks_at(plan, [])
     for other in ("/bin/true", "/no/program"):
         monkeypatch.setenv("TILT", other)
-        done = tasks.make_part(task)
+        done = tasks.make_parts(plan.batch(task))
         assert done.status == 1 and done.line.startswith(f"{other} on ") and not os.path.exists(task.file)
     with pytest.raises(Refused, match="the program can't be run: No such file"):
         planned("emit 1 over (0, 10];")
@@ -969,7 +978,10 @@ def test_keys_and_days(either, here):
     assert sorted(os.listdir("out")) == ["k 1.csv", "k 2.csv", "k%2F0.csv", "lock", "outputs.json", "parts"]
     again = scale(pathlib.Path("q"), INPUTS, "out", **either.options, part_rows=300)
     assert outputs(again) == wanted and (again.parts, again.made) == (found.parts, 0)
-    assert next(again.told()) == f"{again.parts} parts, of which {again.parts} were there; 0 rows read; the call took {again.seconds:.1f} s"
+    assert (
+        next(again.told())
+        == f"{again.parts} parts, of which {again.parts} were there; 0.0 MB of series read; the call took {again.seconds:.1f} s"
+    )
 
 
 BINDS = [f"{name}={files}" for name, files in INPUTS.items()]
@@ -991,10 +1003,11 @@ def test_small_keys_share_a_task(here, monkeypatch):
     for key in range(70):
         pathlib.Path(f"k{key}.csv").write_text(text_of([(at, at + 5, at * key) for at in range(0, 50, 5)]))
         wanted[str(key)] = HEADER + "".join(f"{at},{at + 5},{at * key + 1}\n" for at in range(0, 50, 5))
-    make_keys = tasks.make_keys
-    monkeypatch.setattr(tasks, "make_keys", lambda keys, *more: calls.append(len(keys.keys)) or make_keys(keys, *more))
+    size = sum(os.path.getsize(f"k{key}.csv") - len(HEADER) for key in range(70))
+    make_parts = tasks.make_parts
+    monkeypatch.setattr(tasks, "make_parts", lambda batch, *more: calls.append(len(batch.tasks)) or make_parts(batch, *more))
     found = scale(query, {"x": "k{key}.csv"}, "out", workers=2)
-    assert outputs(found) == wanted and (found.parts, found.made, found.rows) == (70, 70, 700) and sorted(calls) == [6, 32, 32]
+    assert outputs(found) == wanted and (found.parts, found.made, found.bytes) == (70, 70, size) and sorted(calls) == [6, 32, 32]
     assert scale(query, {"x": "k{key}.csv"}, "out", workers=2).made == 0
     # A key that is rejected is reported alone, and those before it are kept.
     pathlib.Path("k33.csv").write_text(HEADER + "0,1,2\n5,4,3\n6,7,8\n")
@@ -1005,8 +1018,8 @@ def test_small_keys_share_a_task(here, monkeypatch):
     assert outputs(found) == {**wanted, "33": HEADER + "0,5,34\n"} and found.made == 1
 
 
-def test_files_that_one_part_needs_have_no_index(here):
-    """Neither is a byte of them digested; a change is noticed all the same."""
+def test_no_row_is_read_where_nothing_changed(here):
+    """Neither is a byte digested; a change is noticed all the same."""
     rows = series(1, 30000, 3)
     times = (10**18, 10**18)
     path = pathlib.Path("x.csv")
@@ -1014,8 +1027,14 @@ def test_files_that_one_part_needs_have_no_index(here):
     os.utime(path, ns=times)
     query = "input x; emit x + 1 over (0, 30000];"
     found = scale(query, {"x": "x.csv"}, "out", workers=1)
-    assert outputs(found)["output"] == run_program(str(PROGRAM), query, "x=x.csv") and not os.path.exists("out/index")
-    assert found.about and " 1 parts; about " in " " + next(found.told())
+    assert outputs(found)["output"] == run_program(str(PROGRAM), query, "x=x.csv") and sorted(os.listdir("out")) == [
+        "lock",
+        "output.csv",
+        "outputs.json",
+        "parts",
+    ]
+    size = os.path.getsize("x.csv") - len(HEADER)
+    assert found.bytes == size and f"1 parts; {size / 1e6:.1f} MB of series read" in next(found.told())
     assert scale(query, {"x": "x.csv"}, "out", workers=1).made == 0
     other = text_of(rows)
     at = other.index(",9", 1000) + 1
@@ -1024,7 +1043,7 @@ def test_files_that_one_part_needs_have_no_index(here):
     assert found.made == 1 and outputs(found)["output"] == run_program(str(PROGRAM), query, "x=x.csv")
     # Rows that no part needs aren't given to the program.
     found = scale("input x; emit x over (0, 100];", {"x": "x.csv"}, "less", workers=1)
-    assert not found.about and found.rows < 100 and os.listdir("less/index")
+    assert found.bytes == len(text_of(rows_in_stretch(rows, 0, 100))) - len(HEADER)
 
 
 def test_a_whole_file_that_changes_meanwhile(here, monkeypatch):
@@ -1033,7 +1052,7 @@ def test_a_whole_file_that_changes_meanwhile(here, monkeypatch):
     program = wrapped(here / "program")
     monkeypatch.setenv("TILT", str(program))
     before(program, '[ "$1" = run ] && echo 40000,40001,1 >> x.csv')
-    with pytest.raises(Refused, match="x.csv: it was changed after its index was made: call again"):
+    with pytest.raises(Refused, match="x.csv: it was changed while the call ran: call again"):
         scale("input x; emit x over (0, 50000];", {"x": "x.csv"}, "out", workers=1)
     assert not list(pathlib.Path("out").glob("*.csv")) and not hidden("out")
     before(program, "")
@@ -1041,16 +1060,27 @@ def test_a_whole_file_that_changes_meanwhile(here, monkeypatch):
     assert outputs(found)["output"].endswith("\n40000,40001,1\n")
 
 
+@pytest.mark.parametrize("status, told", [(4, "the program exited with status 4"), (0, r"\[Errno 32\] Broken pipe")])
+def test_a_program_that_does_not_read_its_rows(here, monkeypatch, status, told):
+    """More of them than a pipe holds: nobody waits for ever, and no descriptor stays open."""
+    pathlib.Path("x.csv").write_text(text_of([(at, at + 1, at) for at in range(150000)]))
+    assert os.path.getsize("x.csv") > 2 * tasks.PIPE
+    program = wrapped(here / "program")
+    monkeypatch.setenv("TILT", str(program))
+    before(program, f'[ "$1" = run ] && {{ echo start,end,value; exit {status}; }}')
+    handles = len(os.listdir("/proc/self/fd"))
+    with pytest.raises(Refused, match=rf"^part 1 over \(0, 140000\] failed 2 times: {told}$"):
+        scale("input x; emit x over (0, 140000];", {"x": "x.csv"}, "out", workers=1, retries=1)
+    assert len(os.listdir("/proc/self/fd")) == handles and not hidden("out") and not list(pathlib.Path("out").glob("*.csv"))
+
+
 def test_many_keys_have_larger_parts(here):
     query, wanted = "input x; emit x over (0, 4000];", {}
     for key in range(16):
         pathlib.Path(f"k{key}.csv").write_text(text_of([(at, at + 1, at + key) for at in range(4000 if key else 4001)]))
         wanted[str(key)] = run_program(str(PROGRAM), query, f"x=k{key}.csv")
-    plan = Plan(Query(query), {"x": ["k{key}.csv"]}, "out", None)
-    plan.choose_wholes(1050)
-    assert set(plan.wholes) == set(plan.files) - {"0"}
     found = scale(query, {"x": "k{key}.csv"}, "out", workers=2, part_rows=1050)
-    assert outputs(found) == wanted and found.parts == 15 + 4
+    assert outputs(found) == wanted and found.parts == 16
     os.unlink("k15.csv")
     assert scale(query, {"x": "k{key}.csv"}, "out", workers=2, part_rows=1050).parts == 15 * 4
 
@@ -1094,7 +1124,7 @@ def test_small_keys_on_a_disk_that_is_full_are_made_alone(here, monkeypatch):
     monkeypatch.setattr(tasks.Together, "commit", full)
     found = scale("input x; emit x over (0, 50];", {"x": "k{key}.csv"}, "out", workers=2)
     assert found.made == 70 and outputs(found) == {str(key): text_of([(0, 5, key)]) for key in range(70)}
-    assert len(list(pathlib.Path("out/parts").glob("*/0*.csv"))) == 70 and not hidden("out")
+    assert not hidden("out")
 
 
 class Killer(threading.Thread):
@@ -1197,17 +1227,16 @@ def test_a_disk_that_is_full(either, here, small_disk):
     assert not hidden(str(out))
 
 
-def test_a_disk_that_is_full_for_an_index(either, here, small_disk):
-    """A series with quotes is written plainly beside its index, for which there is no room at first."""
+def test_a_disk_that_is_full_for_a_plain_copy(here, small_disk):
+    """A series with quotes is written plainly, for which there is no room at first."""
     rows = [(at, at + 1, at * 7919 % 10**6) for at in range(60000)]
     pathlib.Path("x.csv").write_text(text_of(rows).replace(HEADER, QUOTED))
-    query = "input x; emit x over (0, 60000];"
-    words = {**either.options, "index": str(small_disk / "index")}
-    with pytest.raises(Refused, match=r"^the index 1 failed 2 times: \[Errno 28\] No space left on device"):
-        scale(query, {"x": "x.csv"}, "out", retries=1, **words)
+    query = "input x; emit sum(x[t-9:t]) over (0, 60000] every 10000;"
+    with pytest.raises(Refused, match=r"/disk/out/plain: it can't be written: No space left on device"):
+        scale(query, {"x": "x.csv"}, small_disk / "out", workers=2)
     subprocess.run(["mount", "-o", "remount,size=8m", str(small_disk)], check=True)
-    assert outputs(scale(query, {"x": "x.csv"}, "out", **words)) == {"output": run_program(str(PROGRAM), query, "x=x.csv")}
-    assert not hidden(str(small_disk))
+    found = scale(query, {"x": "x.csv"}, small_disk / "out", workers=2)
+    assert outputs(found) == {"output": run_program(str(PROGRAM), query, "x=x.csv")} and not hidden(str(small_disk))
 
 
 def test_a_refusal_is_told_once_with_its_part(either, here, capfd):
@@ -1256,31 +1285,40 @@ def test_a_scheduler_that_is_not_there(told, here, dask, address, cure):
 
 
 def test_what_is_told_of_cuts(here):
-    pathlib.Path("x.csv").write_text(text_of([(at, at + 1, at) for at in range(1000)]))
-    query = "input x; emit sum(x[t-50:t]) over (0, 1000] every 50;"
-    found = scale(query, {"x": "x.csv"}, "out", workers=2, part_rows=30)
-    # Each part reads 49 rows before its stretch of 100, and 49 after it; the first has 50, and the ends have nothing beyond them.
-    assert (
-        found.parts == 20
-        and found.rows == 99 + 149 + 17 * 198 + 149
-        and found.notes
-        == [
-            "cuts that were moved to the grid of every 50 ticks, or into the domain: 32",
-            "cuts that had no place of their own in the domain, so that there are fewer parts: 14",
-            "each row was read 3.8 times, since the query looks far: larger parts by --part-rows read fewer",
-        ]
-    )
+    """Most rows are in one step of the grid, so most cuts come to one place."""
+    rows = [*range(1000), *range(2000, 100000, 1000)]
+    pathlib.Path("x.csv").write_text(text_of([(at, at + 1, at) for at in rows]))
+    query = "input x; emit sum(x[t-50:t]) over (0, 100000] every 1000;"
+    found = scale(query, {"x": "x.csv"}, "out", workers=2, part_rows=300)
+    assert found.parts == 2 and found.notes == [
+        "cuts that were moved to the grid of every 1000 ticks, or into the domain: 3",
+        "cuts that had no place of their own in the domain, so that there are fewer parts: 2",
+    ]
     assert outputs(found)["output"] == run_program(str(PROGRAM), query, "x=x.csv")
 
 
 def test_rows_that_are_read_many_times_are_told(here):
-    pathlib.Path("x.csv").write_text(text_of([(at, at + 1, at) for at in range(10000)]))
-    query = "input x; emit max(x[t-4000:t]) over (0, 10000];"
-    found = scale(query, {"x": "x.csv"}, "out", workers=2, part_rows=1000)
-    # Parts of 1,000 rows, of which the first four have fewer before them, and all others 4,000.
-    assert found.parts == 10 and abs(found.rows - (10000 + 1000 + 2000 + 3000 + 6 * 4000)) < 50
-    assert found.notes == ["each row was read 4.0 times, since the query looks far: larger parts by --part-rows read fewer"]
+    """How many rows a part reads beside its own is an estimate, from their number in all."""
+    rows = [*range(1000), *(10000 + at for at in range(1000)), 10**6]
+    pathlib.Path("x.csv").write_text(text_of([(at, at + 1, at) for at in rows]))
+    query = "input x; emit max(x[t-1000:t]) over (0, 1000001];"
+    found = scale(query, {"x": "x.csv"}, "out", workers=2, part_rows=100)
+    assert found.parts == 20 and found.notes == [
+        f"each row was read {found.bytes / (os.path.getsize('x.csv') - len(HEADER)):.1f} times, since the query looks far: "
+        "larger parts by --part-rows read fewer"
+    ]
     assert outputs(found)["output"] == run_program(str(PROGRAM), query, "x=x.csv")
+
+
+def test_parts_have_as_many_rows_as_they_read_beside_their_own(here):
+    """So that no row is read much more than twice, however far the query looks."""
+    pathlib.Path("x.csv").write_text(text_of([(at, at + 1, at) for at in range(10000)]))
+    size = os.path.getsize("x.csv")
+    for back, grid, count in ((100, "", 10), (1000, "", 10), (2000, "", 5), (4000, "", 2), (6000, "", 1), (20000, "", 1), (100, 2000, 2)):
+        query = f"input x; emit max(x[t-{back}:t]) over (0, 10000]{grid and f' every {grid}'};"
+        found = scale(query, {"x": "x.csv"}, f"out{back}{grid}", workers=2, part_rows=1000)
+        assert found.parts == count and found.bytes < 2.01 * size and "times" not in " ".join(found.notes)
+        assert outputs(found)["output"] == run_program(str(PROGRAM), query, "x=x.csv")
 
 
 def test_two_calls_never_work_in_one_folder(here):
@@ -1364,19 +1402,18 @@ def test_a_signal_that_is_ignored_stays_so(here):
 
 def test_long_loops_over_files_can_be_stopped(tmp_path):
     rows = series(1, 100000, 3)
-    (tmp_path / "x.csv").write_text(text_of(rows))
-    (tmp_path / "quoted.csv").write_text(QUOTED + text_of(rows).removeprefix(HEADER))
+    path = tmp_path / "quoted.csv"
+    path.write_text(QUOTED + text_of(rows).removeprefix(HEADER))
     (tmp_path / "1").write_text(text_of(rows))
     processes = Processes()
     processes.stop()
-    for name in ("x.csv", "quoted.csv"):
-        with pytest.raises(Cancelled):
-            tasks.make_indexes(tasks.Indexing((str(tmp_path / name),), str(tmp_path / "index")), processes)
+    with pytest.raises(Cancelled):
+        ranges.plain_of(str(path), ranges.stamp_of(str(path)), str(tmp_path / "plain"), processes.check)
     with pytest.raises(Cancelled):
         tasks.make_whole(tasks.Joining("", ((Part(1, 0, 9), str(tmp_path / "1")),), str(tmp_path / "whole")), processes)
     with pytest.raises(Cancelled):
         processes.call(["explain"], 1)
-    assert sorted(os.listdir(tmp_path)) == ["1", "index", "quoted.csv", "x.csv"] and not os.listdir(tmp_path / "index")
+    assert sorted(os.listdir(tmp_path)) == ["1", "plain", "quoted.csv"] and not os.listdir(tmp_path / "plain")
 
 
 def test_the_seconds_are_those_of_the_whole_call(here, monkeypatch):
@@ -1433,18 +1470,16 @@ def test_an_old_output_is_not_given_for_new_rows(here):
 
 
 def test_only_what_is_of_this_call_is_swept(here):
-    """Calls in folders below, other commands that write to the folder, and calls that share the index go on."""
+    """Calls in folders below and other commands that write to the folder go on."""
     half = ".half.csv.abc.tilt-data-new"
-    other = [pathlib.Path("out") / name / half for name in ("", "index", "below", "below/parts", "below/index", "parts/k/below")]
-    own = [pathlib.Path("out") / name / half for name in ("parts", "parts/k")]
-    old = pathlib.Path("out/index/.old.json.abc.tilt-data-new")
-    for path in [*other, *own, old]:
+    other = [pathlib.Path("out") / name / half for name in ("", "below", "below/parts", "below/plain", "parts/k/below")]
+    own = [pathlib.Path("out") / name / half for name in ("parts", "parts/k", "plain")]
+    for path in [*other, *own]:
         path.parent.mkdir(parents=True, exist_ok=True)
         path.write_text("half")
-    os.utime(old, (time.time() - 7200, time.time() - 7200))
     pathlib.Path("x.csv").write_text(HEADER + "0,5,7\n")
     scale("input x; emit x over (0, 10];", {"x": "x.csv"}, "out", workers=1)
-    assert [path for path in [*other, *own, old] if path.exists()] == other
+    assert [path for path in [*other, *own] if path.exists()] == other
 
 
 def beside(path: str, **fields: Any) -> None:

@@ -20,7 +20,7 @@ import stat
 import sys
 import tempfile
 import urllib.parse
-from typing import IO, Any, Iterable, Iterator
+from typing import IO, Any, Callable, Iterable, Iterator
 
 from .clock import TIMES, WHOLE, Clock, Moments, duration_of, duration_text, moment_text
 from .errors import Refused, refused_at
@@ -515,11 +515,15 @@ class Together:
             drop(new, path)
 
     def commit(self) -> None:
-        # All are on their way to the disk before the first is waited for, so that the file system has one commit for them.
-        for handle, _, _ in self.begun if self.lasting else ():
+        handles = [handle for handle, _, _ in self.begun if self.lasting]
+        # All are on their way to the disk before the first is waited for, so that the file system has few commits for them.
+        for handle in handles:
             os.posix_fadvise(handle, 0, 0, os.POSIX_FADV_DONTNEED)
-        for handle, _, _ in self.begun if self.lasting else ():
-            os.fsync(handle)
+        if len(handles) == 1:
+            os.fsync(handles[0])
+        elif handles:
+            with concurrent.futures.ThreadPoolExecutor(min(SYNCS, len(handles))) as pool:
+                list(pool.map(os.fsync, handles))
         for _, new, path in self.begun:
             take_place(new, path)
 
@@ -641,6 +645,17 @@ def check_replaceable(path: str, cure: str) -> None:
     # What the caller handed open, such as /dev/stdout, is never replaced.
     elif os.path.isfile(path) and not is_handed(followed(path)):
         raise Refused(f"{path}: it is there without a JSON file beside it, so `tilt-data` didn't write it; {cure}")
+
+
+def copy(source: int, out: int, begin: int, end: int, check: Callable[[], None] = lambda: None, most: int = 1 << 26) -> None:
+    """Copies bytes of a file to where another is written, or to a pipe; the system copies them, many at a time. `check` is called for
+    each piece, and can raise an exception to stop. A file that ends before `end` gives fewer."""
+    while begin < end:
+        check()
+        count = os.sendfile(out, source, begin, min(most, end - begin))
+        if not count:
+            break
+        begin += count
 
 
 def scratch() -> tempfile.TemporaryDirectory[str]:

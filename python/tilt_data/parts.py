@@ -10,7 +10,7 @@ import os
 from typing import IO, Callable, Iterable, NamedTuple
 
 from .errors import Refused
-from .files import HEADER_LINE
+from .files import HEADER_LINE, copy
 from .grammar import MOST_TOKENS
 from .over import Over, over_of
 from .tokens import tokens_of
@@ -112,22 +112,12 @@ def copied(first: bytes, file: IO[bytes], out: IO[bytes], cut: int | None, check
     begin, end = file.tell(), os.fstat(file.fileno()).st_size
     last = first
     if begin < end:
-        tail = max(begin, end - LONGEST)
-        file.seek(tail)
-        text = file.read(end - tail)
+        text = os.pread(file.fileno(), LONGEST, max(begin, end - LONGEST))
         last = text[text.rfind(b"\n", 0, len(text) - 1) + 1 :]
         out.write(first)
-        copy(file, out, begin, end - len(last), check)
+        out.flush()
+        copy(file.fileno(), out.fileno(), begin, end - len(last), check)
     if last and cut is not None and int(last.split(b",")[1]) == cut:
         return last
     out.write(last)
     return None
-
-
-def copy(file: IO[bytes], out: IO[bytes], begin: int, end: int, check: Callable[[], None], most: int = 1 << 20) -> None:
-    file.seek(begin)
-    while begin < end:
-        check()
-        data = file.read(min(most, end - begin))
-        out.write(data)
-        begin += len(data)

@@ -6,9 +6,10 @@ import functools
 import os
 import pathlib
 import shutil
+import signal
 import subprocess
 import threading
-from typing import IO, NamedTuple, Sequence
+from typing import IO, Any, Iterable, NamedTuple, Sequence
 
 from .errors import Refused
 
@@ -62,7 +63,7 @@ class Processes:
         self.lock = threading.Lock()
         # As bytes in a dictionary of its own it needn't be encoded for each run.
         self.environment = dict(os.environb)
-        self.running: set[subprocess.Popen[bytes]] = set()
+        self.running: set[int] = set()
         self.stopped = False
 
     def check(self) -> None:
@@ -70,28 +71,42 @@ class Processes:
         if self.stopped:
             raise Cancelled
 
-    def call(self, words: Sequence[str], out: IO[bytes] | int | None, stdin: int | None = subprocess.DEVNULL) -> Called:
-        """Calls the program. Its output goes to `out`, of which None is that of this process, and is kept if that is a pipe. An OSError
-        says why the program can't be run."""
+    def call(
+        self,
+        words: Sequence[str],
+        out: IO[bytes] | int | None,
+        stdin: int | None = subprocess.DEVNULL,
+        handed: Iterable[int] = (),
+    ) -> Called:
+        """Calls the program. Its output goes to `out`, of which None is that of this process, and is kept if that is a pipe. Its input is
+        empty, or that of this process if `stdin` is None. It gets the descriptors `handed` under their numbers. An OSError says why the
+        program can't be run."""
         # These are files: a pipe would stay open as long as a child of a program that was stopped.
         with open(os.memfd_create("tilt-data"), "w+b") as told, open(os.memfd_create("tilt-data"), "w+b") as printed:
+            place = printed if out == subprocess.PIPE else out
+            streams: list[Any] = [(os.POSIX_SPAWN_DUP2, told.fileno(), 2)]
+            if place is not None:
+                streams.append((os.POSIX_SPAWN_DUP2, place if isinstance(place, int) else place.fileno(), 1))
+            if stdin is not None:
+                streams.append((os.POSIX_SPAWN_OPEN, 0, os.devnull, os.O_RDONLY, 0))
+            # A descriptor that takes its own number stays open in the program, and in no other.
+            streams += [(os.POSIX_SPAWN_DUP2, number, number) for number in handed]
+            path = program()
             with self.lock:
                 self.check()
-                place = printed if out == subprocess.PIPE else out
                 # The words may name descriptors of the caller, such as /dev/fd/63 of a shell. Those of Python are closed in a child anyway.
-                process = subprocess.Popen(
-                    [program(), *words], stdin=stdin, stdout=place, stderr=told, close_fds=False, env=self.environment
-                )
+                process = os.posix_spawnp(path, [path, *words], self.environment, file_actions=streams, setsigdef=[signal.SIGPIPE])
                 self.running.add(process)
             try:
-                status = process.wait()
+                os.waitid(os.P_PID, process, os.WEXITED | os.WNOWAIT)
             except BaseException:
-                process.kill()
-                process.wait()
+                os.kill(process, signal.SIGKILL)
                 raise
             finally:
+                # Until then its number belongs to no other process.
                 with self.lock:
                     self.running.discard(process)
+                    status = os.waitstatus_to_exitcode(os.waitpid(process, 0)[1])
             self.check()
             told.seek(0)
             printed.seek(0)
@@ -102,7 +117,7 @@ class Processes:
         with self.lock:
             self.stopped = True
             for process in self.running:
-                process.kill()
+                os.kill(process, signal.SIGKILL)
 
 
 def call(

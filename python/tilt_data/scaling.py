@@ -5,25 +5,26 @@ import argparse
 import collections
 import contextlib
 import dataclasses
-import hashlib
+import glob
 import json
 import logging
+import math
 import os
 import pathlib
 import time
 import urllib.parse
 from typing import TYPE_CHECKING, Any, Iterable, Iterator, Mapping, Sequence, Union
 
-from . import blocks, engine, tasks
-from .blocks import Block, Indexed
+from . import engine, ranges, tasks
 from .errors import Refused, TiltError, note
-from .files import PLACED, keys_and_files, locked, placed
+from .files import PLACED, failing_at, keys_and_files, locked, placed
 from .frames import Query
 from .parts import Domain, Part
 from .program import program
 from .progress import Bar
-from .tasks import Indexing, Joining, Keys, Made, Stretch, Task
-from .version import VERSION
+from .ranges import NotPlain, Piece, Range, Series
+from .tasks import Batch, Joining, Made, Stretch, Task
+from .version import VERSION as RELEASE
 from .why import clashes_of
 
 if TYPE_CHECKING:
@@ -36,10 +37,12 @@ folder of --out gets KEY.csv for each key, or output.csv without keys: the bytes
 kept, so that the same call continues after it was stopped."""
 ALONE = "output"
 PART_ROWS = 1_000_000
-# How many bytes of series one task makes indexes of.
-AT_ONCE = 1 << 26
-# How many small keys share a task, and from how many keys on.
-TOGETHER, MANY = 32, 64
+# What changes when the parts of earlier versions aren't to be taken.
+FORMAT = 3
+# In how many pieces the rows of a part are looked at to find where to cut, and how much of a part their number may be wrong.
+PIECES, SLACK = 16, 0.02
+# How many small keys share a task, and from how many keys on; how many bytes the files of such a key have at most.
+TOGETHER, MANY, SMALL = 32, 64, 1 << 14
 # From how many keys on a key has one part, if it has at most so many times the rows of a part.
 SEVERAL, LARGER = 16, 4
 # How many seconds are between two lists of the outputs.
@@ -57,33 +60,30 @@ def add(commands: Any) -> None:
     parser.add_argument("--scheduler", metavar="ADDRESS", help=f"{address}; {danger}")
     parser.add_argument("--part-rows", type=int, metavar="N", default=PART_ROWS, help=f"about how many rows a part has ({PART_ROWS})")
     parser.add_argument("--retries", type=int, metavar="N", default=3, help="how often a task that fails is started again (3)")
-    parser.add_argument("--index", metavar="FOLDER", help="where the index of the files is kept, which other calls can share (OUT/index)")
     parser.set_defaults(main=main)
 
 
 @dataclasses.dataclass
 class Scaled:
     """What a call did: the output of each key, `output` if there are none; how many parts there are, how many of them were made now, and
-    from how many rows; the largest number of workers; the seconds of the whole call, of all its tasks, and of the program in them; how
-    often a task was started again; notes on the cuts, the rows and the files; and whether `rows` is only about that many, since some
-    files were read by the program alone."""
+    how many bytes of series the program got for them; the largest number of workers; the seconds of the whole call, of all its tasks, and
+    of the program in them; how often a task was started again; and notes on the cuts, the rows and the files."""
 
     outputs: dict[str, str] = dataclasses.field(default_factory=dict)
     parts: int = 0
     made: int = 0
-    rows: int = 0
+    bytes: int = 0
     workers: int = 0
     seconds: float = 0.0
     task_seconds: float = 0.0
     program_seconds: float = 0.0
     again: int = 0
     notes: list[str] = dataclasses.field(default_factory=list)
-    about: bool = False
 
     def told(self, most: int = 10) -> Iterator[str]:
         yield from self.notes
         kept = f", of which {self.parts - self.made} were there" if self.made < self.parts else ""
-        yield f"{self.parts} parts{kept}; {'about ' if self.about else ''}{self.rows} rows read; the call took {self.seconds:.1f} s"
+        yield f"{self.parts} parts{kept}; {self.bytes / 1e6:.1f} MB of series read; the call took {self.seconds:.1f} s"
         if self.made and self.workers:
             # How the workers spent the time of the call.
             time = self.workers * self.seconds
@@ -137,7 +137,7 @@ def bound(binds: Sequence[str]) -> dict[str, list[str]]:
 class Plan:
     """What to make: the query, how far it looks, the files of each key, and where everything is written."""
 
-    def __init__(self, query: Query, inputs: Mapping[str, Sequence[str]], out: str, index: str | None) -> None:
+    def __init__(self, query: Query, inputs: Mapping[str, Sequence[str]], out: str) -> None:
         try:
             self.needs = query.explain().inputs
             self.program = tasks.program_digest(program())
@@ -157,108 +157,97 @@ class Plan:
             if clash:
                 raise Refused(f"{name}: {clash}")
         self.out = os.path.abspath(out)
-        self.index = os.path.abspath(index) if index is not None else os.path.join(self.out, "index")
-        self.cuts: dict[str, list[int]] = {}
-        # The stamps of small files, whose indexes aren't stored.
-        self.stamps: dict[str, blocks.Stamp] = {}
-        # The keys whose files the program reads as they are, and what is known of each file.
-        self.wholes: dict[str, dict[str, list[Indexed]]] = {}
-        self.rows = self.moved = self.fewer = 0
+        self.plain = os.path.join(self.out, "plain")
+        self.known: dict[str, Series | None] = {}
+        # How many bytes of series the output rests on, how many cuts were moved, and how many have no place.
+        self.bytes = self.moved = self.fewer = 0
 
-    def choose_wholes(self, part_rows: int) -> None:
-        """Finds the keys that need no index: each input is one file, all are needed, and they have the rows of one part."""
-        known: dict[tuple[str, str], Indexed | None] = {}
+    def inputs(self, key: str) -> dict[str, list[Series]]:
+        """The files of each input that have rows, in the order of these. Each file is looked at once in a call."""
+        for path in (path for paths in self.files[key].values() for path in paths):
+            if path not in self.known:
+                with failing_at(self.plain):
+                    self.known[path] = ranges.series_of(path, self.plain)
+        its = {name: map(self.known.__getitem__, paths) for name, paths in self.files[key].items()}
+        return {name: ranges.in_order(one for one in files if one is not None) for name, files in its.items()}
+
+    def cut(self, key: str, part_rows: int) -> list[Part]:
+        """The parts of a key, by the rows that its output rests on."""
+        while True:
+            try:
+                ticks, count = self.ticks(key, part_rows)
+                return self.cut_at(ticks, count)
+            except NotPlain as found:
+                series = self.known[found.path]
+                if series is None or series.file != series.path:
+                    raise
+                with failing_at(self.plain):
+                    self.known[found.path] = ranges.plain_of(series.path, series.stamp, self.plain)
+
+    def ticks(self, key: str, part_rows: int) -> tuple[list[int], int]:
+        """Where to cut, and into how many parts: each part has about so many rows, or as many as it reads beside its own if those are more.
+        So no row is read much more than twice. With several keys a key has one part, if that isn't much larger."""
+        low, high = self.domain.start, self.domain.end
+        met = {name: self.ranges_in(files, *self.stretch(name, low, high)) for name, files in self.inputs(key).items()}
+        its = [one for some in met.values() for one in some]
         most = part_rows * (LARGER if len(self.files) >= SEVERAL else 1)
-        for key, its in self.files.items():
-            found: dict[str, list[Indexed]] = {}
-            for name, paths in its.items():
-                low, high = self.stretch(name, self.domain.start, self.domain.end)
-                if (name, paths[0]) not in known:
-                    known[name, paths[0]] = blocks.whole_index(paths[0], low, high) if low < high and len(paths) == 1 else None
-                one = known[name, paths[0]]
-                if one is None or len(paths) > 1:
-                    break
-                found[name] = [one]
-            if found and len(found) == len(its) and rows_of(found) <= most:
-                self.wholes[key] = found
+        ticks, count = list[int](), 1
+        # The program checks the order of the rows if it reads all.
+        if sum((one.end - one.begin) / one.series.width for one in its) > most / 2 or not all(map(ranges.is_all, its)):
+            pieces = {name: [piece for one in some for piece in ranges.pieces_of(one, part_rows, PIECES)] for name, some in met.items()}
+            rows = sum(piece.rows for some in pieces.values() for piece in some)
+            beside = sum(self.rows_beside(name, some) for name, some in pieces.items())
+            if rows > most:
+                count = max(1, min(math.ceil(rows / part_rows - SLACK), int(rows / max(beside, 1) + SLACK)))
+                ticks = ranges.ticks_by_rows([piece for some in pieces.values() for piece in some], count)
+        self.bytes += sum(one.end - one.begin for one in its)
+        return ticks, count
 
-    def is_small(self, key: str) -> bool:
-        """Whether the program reads the files of a key as they are, and all are small."""
-        return key in self.wholes and all(one.stamp[0] <= blocks.SMALL for files in self.wholes[key].values() for one in files)
+    def ranges_in(self, files: list[Series], low: int, high: int) -> list[Range]:
+        return [ranges.range_of(one, low, high) for one in ranges.meeting(files, low, high)]
 
-    def unindexed(self) -> Iterator[Indexing]:
-        """The series that have no index yet, some for each task."""
-        some: list[str] = []
-        size = 0
-        files = (its for key, its in self.files.items() if key not in self.wholes)
-        for path in dict.fromkeys(path for its in files for paths in its.values() for path in paths):
-            small = blocks.small_index(path)
-            if small is not None:
-                self.stamps[path] = small.stamp
-            elif blocks.found_index(path, self.index) is None:
-                some, size = [*some, path], size + blocks.stamp_of(path)[0]
-            if size >= AT_ONCE or len(some) >= 1000:
-                yield Indexing(tuple(some), self.index)
-                some, size = [], 0
-        if some:
-            yield Indexing(tuple(some), self.index)
+    def rows_beside(self, name: str, pieces: list[Piece]) -> float:
+        """About how many rows of an input a part reads beside its own, with those of the step before its cut."""
+        low, high = self.stretch(name, -self.domain.period, 0)
+        return sum(piece.rows for piece in pieces) * (high - low) / (pieces[-1].last - pieces[0].first) if pieces else 0
 
-    def indexed(self, key: str) -> dict[str, list[Indexed]]:
-        if key in self.wholes:
-            return self.wholes[key]
-        found: dict[str, list[Indexed]] = {}
-        for name, paths in self.files[key].items():
-            its: list[Indexed] = []
-            for path in paths:
-                one = blocks.small_index(path) if path in self.stamps else blocks.found_index(path, self.index)
-                if one is None or one.stamp != self.stamps.get(path, one.stamp):
-                    raise blocks.changed(path)
-                its.append(one)
-            found[name] = blocks.in_order(its)
-        return found
-
-    def cut(self, key: str, part_rows: int) -> None:
-        """Chooses the cuts of a key by the rows that its output rests on."""
-        if key in self.wholes:
-            self.rows += rows_of(self.wholes[key])
-            self.cut_at(key, [], 1)
-            return
-        met: list[Block] = []
-        for name, files in self.indexed(key).items():
-            for segment in blocks.stretch_of(files, *self.stretch(name, self.domain.start, self.domain.end)):
-                met += segment.blocks
-        rows = sum(block.rows for block in met)
-        self.rows += rows
-        count = -(-rows // part_rows)
-        self.cut_at(key, blocks.ticks_by_rows(met, count) if count > 1 else [], count)
-
-    def cut_at(self, key: str, ticks: list[int], count: int) -> None:
-        self.cuts[key], moved = self.domain.cuts(ticks)
+    def cut_at(self, ticks: list[int], count: int) -> list[Part]:
+        cuts, moved = self.domain.cuts(ticks)
         self.moved += moved
-        self.fewer += max(0, count - 1 - len(self.cuts[key]))
+        self.fewer += max(0, count - 1 - len(cuts))
+        return self.domain.parts(cuts)
 
     def stretch(self, name: str, start: int, end: int) -> tuple[int, int]:
         """The ticks (low, high] of an input that the output on (start, end] rests on; none where it isn't used."""
         need = self.needs[name]
         return (start - need[0], end + need[1]) if need is not None else (start, start)
 
-    def tasks(self, key: str) -> Iterator[Task]:
-        indexed = self.indexed(key)
-        for part in self.domain.parts(self.cuts[key]):
+    def tasks(self, key: str, parts: list[Part]) -> list[Task]:
+        """The tasks of the parts of a key. If there are many keys, the one part of a small key is its output."""
+        inputs, found = self.inputs(key), list[Task]()
+        small = len(self.files) >= MANY and sum(one.end for its in inputs.values() for one in its) <= SMALL
+        for part in parts:
             query = self.domain.query(part.start, part.end)
-            found = hashlib.sha256(f"{blocks.VERSION} {self.program} {len(query)} {query}".encode())
-            inputs = []
-            for name, files in indexed.items():
+            texts, stretches = [f"{FORMAT} {self.program} {len(query)} {query}"], []
+            for name, files in inputs.items():
                 low, high = self.stretch(name, part.start, part.end)
-                segments = tuple(blocks.stretch_of(files, low, high)) if low < high else ()
-                digests = " ".join(block.digest for segment in segments for block in segment.blocks)
-                found.update(f"\n{name} {low} {high} {digests}".encode())
-                inputs.append(Stretch(name, low, high, segments))
-            file = os.path.join(self.out, "parts", key, f"{part.number:06d}-{found.hexdigest()[:32]}.csv")
-            yield Task(key, part, query, tuple(inputs), file, self.program)
+                its = ranges.meeting(files, low, high)
+                texts += [f"{name} {low} {high}", *(f"{len(one.path)} {one.path} {one.stamp}" for one in its)]
+                stretches.append(Stretch(name, low, high, its))
+            digest = digest_of(texts)
+            file = beside = os.path.join(self.out, "parts", key, f"{part.number:06d}-{digest}.csv")
+            if small and len(parts) == 1:
+                file, beside = self.whole_file(key), f"{self.out}/parts/whole.csv"
+            found.append(Task(key, part, tuple(stretches), digest, file, beside))
+        return found
+
+    def batch(self, *some: Task) -> Batch:
+        """Tasks of the same stretch, to be carried out together."""
+        part = some[0].part
+        return Batch(self.domain.query(part.start, part.end), self.program, self.plain, some)
 
     def whole_file(self, key: str) -> str:
-        return os.path.join(self.out, whole_name(key))
+        return f"{self.out}/{whole_name(key)}"
 
     def notes(self) -> Iterator[str]:
         """Notes on the cuts, and on inputs whose clocks or scales differ."""
@@ -281,10 +270,6 @@ def whole_name(key: str) -> str:
     return f"{key or ALONE}.csv"
 
 
-def rows_of(files: Mapping[str, list[Indexed]]) -> int:
-    return sum(one.rows for its in files.values() for one in its)
-
-
 class Listing:
     """The outputs in the folder of a call, as its file `outputs.json` lists them: for each file the digest of the parts that it was joined
     from, and its stamp then; null for an output that a call meant to write and didn't."""
@@ -302,9 +287,8 @@ class Listing:
         if not self.changed:
             return
         self.changed, self.written = False, time.monotonic()
-        # A line for each output, by the encoder that takes no indents and is much faster.
-        lines = ",\n".join(f"  {json.dumps(name)}: {json.dumps(entry)}" for name, entry in self.outputs.items())
-        text = f'{{\n "tilt-data": 1,\n "version": {json.dumps(VERSION)},\n "outputs": {{\n{lines}\n }}\n}}\n'
+        # The encoder that takes no indents is much faster.
+        text = json.dumps({"tilt-data": 1, "version": RELEASE, "outputs": self.outputs}).replace(']], "', ']],\n"') + "\n"
         # All files that are half written are in `parts`, which only a call with the lock writes to.
         new = os.path.join(self.folder, "parts", "outputs.json")
         with placed(new) as file:
@@ -318,9 +302,9 @@ class Listing:
 
     def digest(self, name: str) -> str | None:
         """The digest of the parts of an output; None if the file isn't there as it was joined."""
-        with contextlib.suppress(Refused, ValueError, TypeError):
+        with contextlib.suppress(Refused, KeyError, ValueError, TypeError):
             digest, stamp = self.outputs[name]
-            if blocks.stamp_in(stamp) == blocks.stamp_of(os.path.join(self.folder, name)):
+            if tuple(stamp) == ranges.stamp_of(os.path.join(self.folder, name)):
                 return str(digest)
         return None
 
@@ -328,7 +312,7 @@ class Listing:
         """Notes an output that was made now. One that this machine can't see yet, on a shared disk, is made again by the next call."""
         self.outputs[name], self.changed = None, True
         with contextlib.suppress(Refused):
-            self.outputs[name] = digest, blocks.stamp_of(os.path.join(self.folder, name))
+            self.outputs[name] = digest, ranges.stamp_of(os.path.join(self.folder, name))
 
     def set_aside(self, names: list[str]) -> int:
         """Moves the outputs of earlier calls that aren't among these to the folder `earlier`, so that nobody takes them for outputs of this
@@ -348,16 +332,13 @@ class Listing:
 # The run
 
 
-def sweep(folder: str, age: float = 0, deep: bool = False) -> None:
-    """Removes half-written files that nobody wrote to for `age` seconds from a folder, and from those in it if it goes `deep`."""
-    with contextlib.suppress(OSError), os.scandir(folder) as found:
-        for one in found:
-            if deep and one.is_dir(follow_symlinks=False):
-                sweep(one.path, age)
-            elif one.name.startswith(".") and one.name.endswith(PLACED):
+def sweep(*folders: str) -> None:
+    """Removes half-written files from folders and from those in them."""
+    for folder in folders:
+        for name in ("", "*"):
+            for path in glob.glob(os.path.join(glob.escape(folder), name, f".*{PLACED}")):
                 with contextlib.suppress(OSError):
-                    if one.stat(follow_symlinks=False).st_mtime <= time.time() - age:
-                        os.unlink(one.path)
+                    os.unlink(path)
 
 
 class Run:
@@ -365,26 +346,24 @@ class Run:
         self.plan, self.engine, self.listing, self.progress = plan, its, listing, progress
         self.counted: Bar
         self.scaled = Scaled()
+        # How many parts of a key are missing, and how they are joined, with a digest of what they are made from.
         self.left: dict[str, int] = {}
-        self.files: dict[str, list[tuple[Part, str]]] = {}
-        self.small: list[Task] = []
+        self.wholes: dict[str, tuple[Joining, str]] = {}
 
     def carry_out(self, part_rows: int) -> Scaled:
         plan, scaled = self.plan, self.scaled
-        plan.choose_wholes(part_rows)
-        self.make_indexes()
-        for key in plan.files:
-            plan.cut(key, part_rows)
         names = [whole_name(key) for key in plan.files]
+        # What is finished is found before any task starts.
+        waiting = collections.deque(task for key in plan.files for task in self.missing(key, part_rows))
         self.listing.add(names)
         try:
-            self.make_parts()
+            self.make_parts(waiting)
         finally:
             self.listing.write()
         scaled.outputs = dict(sorted(scaled.outputs.items()))
         scaled.notes = list(plan.notes())
-        if scaled.made == scaled.parts and scaled.rows > 2 * plan.rows:
-            times = f"each row was read {scaled.rows / plan.rows:.1f} times, since the query looks far"
+        if scaled.made == scaled.parts and scaled.bytes > 2 * plan.bytes:
+            times = f"each row was read {scaled.bytes / plan.bytes:.1f} times, since the query looks far"
             scaled.notes.append(f"{times}: larger parts by --part-rows read fewer")
         moved = self.listing.set_aside(names)
         if moved:
@@ -393,108 +372,73 @@ class Run:
         scaled.task_seconds = self.engine.seconds
         return scaled
 
-    def make_indexes(self) -> None:
-        wanted = list(self.plan.unindexed())
-        waiting = collections.deque(enumerate(wanted, 1))
-        with Bar(sum(len(one.paths) for one in wanted), "files", self.progress) as self.counted:
+    def missing(self, key: str, part_rows: int) -> list[Task]:
+        """The tasks of the parts of a key whose files aren't there; none if its output is there, made from the same parts."""
+        tasks = self.plan.tasks(key, self.plan.cut(key, part_rows))
+        name, digest = whole_name(key), digest_of(task.digest for task in tasks)
+        self.scaled.parts += len(tasks)
+        if self.listing.digest(name) == digest:
+            self.scaled.outputs[urllib.parse.unquote(key) or ALONE] = self.plan.whole_file(key)
+            return []
+        self.wholes[key] = Joining(key, tuple((task.part, task.file) for task in tasks), self.plan.whole_file(key)), digest
+        found = [task for task in tasks if is_whole(task) or not os.path.exists(task.file)]
+        self.left[key] = len(found)
+        return found
+
+    def make_parts(self, waiting: collections.deque[Task]) -> None:
+        """Makes all parts that are missing, and the whole of each key as soon as its last part is there. Small keys share a task."""
+        with Bar(self.scaled.parts, "parts", self.progress) as self.counted:
+            self.counted.step(self.scaled.parts - len(waiting))
+            for key in [key for key, count in self.left.items() if not count]:
+                self.finish(key)
             while waiting or self.engine.begun:
                 while waiting and self.engine.has_room():
-                    number, indexing = waiting.popleft()
-                    self.engine.begin(f"the index {number}", tasks.make_indexes, indexing, self.take_index)
-                self.engine.take_next()
-
-    def take_index(self, indexing: Indexing, made: Made) -> None:
-        if made.status:
-            raise Refused(made.line)
-        self.counted.step(len(indexing.paths))
-
-    def make_parts(self) -> None:
-        """Makes all parts that are missing, and the whole of each key as soon as its last part is there."""
-        self.scaled.parts = sum(len(cuts) + 1 for cuts in self.plan.cuts.values())
-        waiting = self.missing()
-        with Bar(self.scaled.parts, "parts", self.progress) as self.counted:
-            task = next(waiting, None)
-            while task is not None or self.engine.begun:
-                while task is not None and self.engine.has_room():
-                    self.begin(task)
-                    task = next(waiting, None)
-                if task is None:
-                    self.begin_keys()
+                    some = [waiting.popleft()]
+                    while waiting and is_whole(some[0]) and is_whole(waiting[0]) and len(some) < TOGETHER:
+                        some.append(waiting.popleft())
+                    self.begin(*some)
                 if self.engine.begun:
                     self.engine.take_next()
 
-    def begin(self, task: Task) -> None:
-        """Starts the task of a part. If there are many keys, small keys of one part wait until they are enough for a task."""
-        if len(self.plan.files) < MANY or not self.plan.is_small(task.key):
-            self.engine.begin(name_of(task), tasks.make_part, task, self.take_part)
-            return
-        self.small.append(task)
-        if len(self.small) >= TOGETHER:
-            self.begin_keys()
+    def begin(self, *some: Task) -> None:
+        more = f", and {len(some) - 1} other keys" if len(some) > 1 else ""
+        self.engine.begin(f"{name_of(some[0])}{more}", tasks.make_parts, self.plan.batch(*some), self.take_parts)
 
-    def begin_keys(self) -> None:
-        if self.small:
-            keys = Keys(tuple((task, self.joining(task.key)) for task in self.small))
-            self.engine.begin(f"{name_of(self.small[0])}, and {len(self.small) - 1} other keys", tasks.make_keys, keys, self.take_keys)
-            self.small = []
-
-    def joining(self, key: str) -> Joining:
-        return Joining(key, tuple(self.files[key]), self.plan.whole_file(key))
-
-    def missing(self) -> Iterator[Task]:
-        """The tasks of all parts whose files aren't there; none of a key whose output is there, joined from the same parts."""
-        for key in self.plan.files:
-            digest = self.listing.digest(whole_name(key))
-            if digest is not None and digest == parts_digest(task.file for task in self.plan.tasks(key)):
-                self.counted.step(len(self.plan.cuts[key]) + 1)
-                self.scaled.outputs[urllib.parse.unquote(key) or ALONE] = self.plan.whole_file(key)
-                continue
-            self.left[key], self.files[key] = len(self.plan.cuts[key]) + 1, []
-            for task in self.plan.tasks(key):
-                self.files[key].append((task.part, task.file))
-                if os.path.exists(task.file):
-                    self.finish(key)
-                else:
-                    yield task
-
-    def finish(self, key: str) -> None:
-        """Counts a part of a key that is there; after the last one the whole is made."""
-        self.counted.step()
-        self.left[key] -= 1
-        if not self.left[key]:
-            joining = self.joining(key)
-            del self.left[key], self.files[key]
-            self.engine.begin(f"the whole of {key or ALONE}", tasks.make_whole, joining, self.take_whole)
-
-    def take_keys(self, keys: Keys, made: Made) -> None:
-        """Takes what a task made of small keys. What it left gets tasks of its own."""
-        for (task, joining), part in zip(keys.keys, made.of_keys):
-            self.count(task, part)
+    def take_parts(self, batch: Batch, made: Made) -> None:
+        """Takes what a task made of parts. What it left gets tasks of its own."""
+        if made.status:
+            raise TiltError(f"{name_of(batch.tasks[0])}: {made.line}", made.status, made.place)
+        for task, part in zip(batch.tasks, made.parts):
+            self.scaled.made += 1
+            self.scaled.bytes += part.bytes
+            self.scaled.program_seconds += part.program_seconds
             self.counted.step()
-            del self.left[task.key], self.files[task.key]
-            self.take_whole(joining, Made())
+            self.left[task.key] -= 1
+            if not self.left[task.key]:
+                self.finish(task.key)
+        for task in batch.tasks[len(made.parts) :]:
+            self.begin(task)
         if time.monotonic() > self.listing.written + BETWEEN:
             self.listing.write()
-        for task, _ in keys.keys[len(made.of_keys) :]:
-            self.engine.begin(name_of(task), tasks.make_part, task, self.take_part)
+
+    def finish(self, key: str) -> None:
+        """Joins the parts of a key, which are all there. The one part of a small key is its output."""
+        joining, _ = self.wholes[key]
+        if joining.parts[0][1] == joining.file:
+            self.take_whole(joining, Made())
+        else:
+            self.engine.begin(f"the whole of {key or ALONE}", tasks.make_whole, joining, self.take_whole)
 
     def take_whole(self, joining: Joining, made: Made) -> None:
         if made.status:
             raise Refused(made.line)
-        self.listing.note(whole_name(joining.key), parts_digest(file for _, file in joining.parts))
+        self.listing.note(whole_name(joining.key), self.wholes.pop(joining.key)[1])
         self.scaled.outputs[urllib.parse.unquote(joining.key) or ALONE] = joining.file
 
-    def count(self, task: Task, part: Made) -> None:
-        self.scaled.about |= any(segment.whole and segment.length > blocks.EDGE for its in task.inputs for segment in its.segments)
-        self.scaled.made += 1
-        self.scaled.rows += part.rows
-        self.scaled.program_seconds += part.program_seconds
 
-    def take_part(self, task: Task, made: Made) -> None:
-        if made.status:
-            raise TiltError(f"{name_of(task)}: {made.line}", made.status, made.place)
-        self.count(task, made)
-        self.finish(task.key)
+def is_whole(task: Task) -> bool:
+    """Whether the part of a task is the output of its key."""
+    return task.file != task.beside
 
 
 def name_of(task: Task) -> str:
@@ -502,9 +446,8 @@ def name_of(task: Task) -> str:
     return f"{key}part {task.part.number} over ({task.part.start}, {task.part.end}]"
 
 
-def parts_digest(files: Iterable[str]) -> str:
-    """A digest of the names of parts, which have digests of all that the parts are made from."""
-    return blocks.joint_digest(os.path.basename(file) for file in files)
+def digest_of(texts: Iterable[str]) -> str:
+    return ranges.digest_of("\n".join(texts).encode(errors="surrogateescape"))
 
 
 def scale(
@@ -516,7 +459,6 @@ def scale(
     workers: int | None = None,
     part_rows: int = PART_ROWS,
     retries: int = 3,
-    index: str | None = None,
     progress: bool = False,
 ) -> Scaled:
     """Runs a query over many files, several parts at a time, as `tilt-data scale` does with the same options. The files of an input are a
@@ -529,14 +471,13 @@ def scale(
         engine.imported()
     listed = {name: [files] if isinstance(files, (str, os.PathLike)) else files for name, files in inputs.items()}
     named = {name: [os.fspath(one) for one in files] for name, files in listed.items()}
-    plan = Plan(query if isinstance(query, Query) else Query(query), named, os.fspath(out), index)
+    plan = Plan(query if isinstance(query, Query) else Query(query), named, os.fspath(out))
     with locked(plan.out, "scale"), contextlib.ExitStack() as stack:
-        # What killed processes left: only this call writes to its parts, and other calls can write to the index at the same time.
+        # What killed processes left: only this call writes to its folder.
         parts = os.path.join(plan.out, "parts")
-        sweep(parts, deep=True)
-        sweep(plan.index, 3600)
+        sweep(parts, plan.plain)
         if scheduler is not None:
-            stack.callback(sweep, parts, deep=True)
+            stack.callback(sweep, parts)
         with engine.opened(scheduler, workers, retries) as its:
             scaled = Run(plan, its, Listing(plan.out), progress).carry_out(part_rows)
     scaled.seconds = time.monotonic() - begun
@@ -548,7 +489,7 @@ def main(words: argparse.Namespace) -> int:
         raise Refused("--workers is for this machine: the scheduler has its own workers")
     # What Dask leaves open as its client goes isn't for the reader of a command.
     logging.getLogger("asyncio").setLevel(logging.CRITICAL)
-    options: Any = {name: getattr(words, name) for name in ("scheduler", "workers", "part_rows", "retries", "index")}
+    options: Any = {name: getattr(words, name) for name in ("scheduler", "workers", "part_rows", "retries")}
     for line in scale(pathlib.Path(words.query), bound(words.binds), words.out, progress=True, **options).told():
         note(line)
     return 0

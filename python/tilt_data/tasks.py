@@ -1,76 +1,75 @@
-"""What a worker does: make the index of files, make the output of a part, and join the parts of a key. A task gets only names and numbers
-and writes one file. It can be started again at any time, and gives the same bytes."""
+"""What a worker does: make the outputs of parts, and join the parts of a key. A task gets only names and numbers, and writes files. It can
+be started again at any time, and gives the same bytes."""
 from __future__ import annotations
 
 import contextlib
 import dataclasses
+import fcntl
 import functools
 import hashlib
 import os
+import threading
 import time
 from typing import Callable, NamedTuple, TypeVar
 
-from . import blocks, parts
-from .blocks import Indexed, Stamp, stamp_of
+from . import parts
 from .errors import Refused, TiltError
-from .files import HEADER_LINE, Together, placed, scratch
+from .files import HEADER_LINE, Together, copy, scratch
 from .parts import Part
 from .program import REFUSALS, Processes, program
+from .ranges import NotPlain, Range, Series, Stamp, check_stamp, is_all, opened, plain_of, range_of, stamp_of
 from .why import Refusal, refusal_of
 
-# The header with a byte order mark before it and CR LF after it. What is only empty lines before the first row is longer.
-LONGEST_HEADER = len(blocks.MARK) + len(HEADER_LINE) + 1
 T = TypeVar("T")
+# How many bytes a pipe to the program holds.
+PIPE = 1 << 20
 # On a cluster, a worker's tasks run until they end or the worker is killed.
 UNSTOPPED = Processes()
 
 
 class Stretch(NamedTuple):
-    """The rows of an input that a part needs: those with a tick in (low, high], and where they stand."""
+    """The rows of an input that a part needs: those with a tick in (low, high], in these files."""
 
     name: str
     low: int
     high: int
-    segments: tuple[Indexed, ...]
+    files: tuple[Series, ...]
 
 
 class Task(NamedTuple):
-    """A part of the output of a key: the query over the part's stretch, the rows that it needs, and the file that gets the output.
-    `program` is a digest of the program that is to be called."""
+    """A part of the output of a key: the rows that it needs, a digest of all that it is made from, the file that gets it, and a name beside
+    which it is written."""
 
     key: str
     part: Part
-    query: str
     inputs: tuple[Stretch, ...]
+    digest: str
     file: str
+    beside: str
+
+
+class Batch(NamedTuple):
+    """Parts that are made by one call of a worker, one after another: the query over their stretch, which is the same for all; a digest of
+    the program that is to be called; and the folder of the plain copies."""
+
+    query: str
     program: str
+    plain: str
+    tasks: tuple[Task, ...]
 
 
 @dataclasses.dataclass(frozen=True)
 class Made:
-    """How a task went: its seconds and those of the program in it, and the rows that the program got. If something was rejected: the line,
-    the status and the place. Of a task of several keys what was made of each."""
+    """How a task went: its seconds and those of the program in it, and how many bytes of series the program got. If something was rejected:
+    the line, the status and the place. Of a batch what was made of each part, up to the first that failed."""
 
     seconds: float = dataclasses.field(default=0.0, compare=False)
     program_seconds: float = 0.0
-    rows: int = 0
+    bytes: int = 0
     line: str = ""
     status: int = 0
     place: Refusal | None = None
-    of_keys: tuple[Made, ...] = ()
-
-
-class Keys(NamedTuple):
-    """Small keys whose outputs are to be made by one task, one after another: for each its only part, and its whole."""
-
-    keys: tuple[tuple[Task, Joining], ...]
-
-
-class Indexing(NamedTuple):
-    """Series whose indexes are to be made, and the folder that gets them."""
-
-    paths: tuple[str, ...]
-    folder: str
+    parts: tuple[Made, ...] = ()
 
 
 class Joining(NamedTuple):
@@ -109,135 +108,167 @@ def task(make: Callable[[T, Processes], Made]) -> Callable[..., Made]:
 
 
 @task
-def make_indexes(indexing: Indexing, processes: Processes) -> Made:
-    for path in indexing.paths:
-        if blocks.found_index(path, indexing.folder) is None:
-            blocks.make_index(path, indexing.folder, processes.check)
+def make_parts(batch: Batch, processes: Processes) -> Made:
+    """Makes the outputs of parts. If one of several fails, those before it are kept. The caller makes the others by a task for each, so
+    that what happens to them is counted and reported for each. A part that is there isn't made again."""
+    if all(task.beside == task.file and os.path.exists(task.file) for task in batch.tasks):
+        return Made(parts=(Made(),) * len(batch.tasks))
+    with contextlib.suppress(*((Refused, OSError) if len(batch.tasks) > 1 else ())):
+        return made_together(batch, processes)
     return Made()
 
 
-@task
-def make_part(task: Task, processes: Processes) -> Made:
-    """Runs the program on the rows that the part needs. A part that is there isn't made again."""
-    if os.path.exists(task.file):
-        return Made()
-    check_program(task)
-    with scratch() as folder, placed(task.file) as out:
-        return run(processes, task, folder, out.fileno())
-
-
-@task
-def make_keys(keys: Keys, processes: Processes) -> Made:
-    """Makes the outputs of small keys, up to the first that doesn't succeed at once: `of_keys` has those that were made. The caller makes
-    the others by a task for each, so that what happens to them is counted and reported for each. An output is its only part. All are
-    brought to the disk together, and then take their names."""
+def made_together(batch: Batch, processes: Processes) -> Made:
+    """Runs the program for each part. All outputs are brought to the disk together, and then take their names."""
+    check_program(batch)
     made: list[Made] = []
-    with contextlib.suppress(OSError, Refused):
-        check_program(keys.keys[0][0])
-        with scratch() as folder, Together() as together:
-            for task, joining in keys.keys:
-                # In the folder that has the parts of all keys.
-                beside = os.path.join(os.path.dirname(os.path.dirname(task.file)), "whole.csv")
-                try:
-                    made.append(run(processes, task, folder, together.begin(beside, joining.file)))
-                except (Refused, OSError):
-                    together.keep(len(made))
-                    break
-            together.commit()
-            return Made(of_keys=tuple(made))
-    return Made()
+    with scratch() as folder, Together() as together:
+        query = os.path.join(folder, "query.tilt")
+        with open(query, "w", encoding="utf-8", newline="") as file:
+            file.write(batch.query)
+        try:
+            for task in batch.tasks:
+                out = together.begin(task.beside, task.file)
+                made.append(run(processes, task, query, batch.plain, out))
+        except (Refused, OSError):
+            if not made:
+                raise
+            together.keep(len(made))
+        together.commit()
+    return Made(parts=tuple(made))
 
 
-def check_program(task: Task) -> None:
+def check_program(batch: Batch) -> None:
     """Raises a Refused if the program here isn't that of the call."""
     path = program()
-    if not os.path.exists(path) or program_digest(path) != task.program:
+    if not os.path.exists(path) or program_digest(path) != batch.program:
         raise Refused(f"{path} on {os.uname().nodename} isn't the program of the call")
 
 
-def run(processes: Processes, task: Task, folder: str, out: int) -> Made:
-    """Runs the program with its output to a descriptor; its files are in the folder. What it rejects is a TiltError, with the place in the
-    series that a row is from. Another status that isn't 0 is a fault of the machine, and the task can be started again."""
-    words, rows = laid_out(task, folder)
-    started = time.perf_counter()
-    called = processes.call(["run", *words], out)
+def run(processes: Processes, task: Task, query: str, plain: str, out: int) -> Made:
+    """Runs the program with its output to a descriptor. What it rejects is a TiltError, with the place in the series that a row is from.
+    Another status that isn't 0 is a fault of the machine, and the task can be started again."""
+    ranges = {stretch.name: ranges_of(stretch, plain, processes) for stretch in task.inputs}
+    with Feeds() as feeds:
+        words = [f"{name}={its[0].series.file if is_whole(its) else feeds.begin(its)}" for name, its in ranges.items()]
+        started = time.perf_counter()
+        called = processes.call(["run", query, *words], out, handed=feeds.readers)
+        seconds = time.perf_counter() - started
+    # Of a file that has another stamp now, the bytes aren't known.
+    for stretch in task.inputs:
+        for series in stretch.files:
+            check_stamp(series)
     line = called.told.rstrip("\n")
     if called.status in REFUSALS:
         if line.startswith("tilt: 3 file too long: "):
             raise TiltError(f"{line}, which are the rows of this part: fewer by --part-rows", called.status)
-        place = refusal_of(line, words)
-        for stretch in task.inputs:
-            if place is not None and place.line is not None and place.file == rows_path(folder, stretch.name):
-                file, number = place_in(stretch, place.line)
-                place = dataclasses.replace(place, file=file, line=number)
-        raise TiltError(line, called.status, place)
+        raise TiltError(line, called.status, place_of(line, query, ranges))
     if called.status:
         raise ChildProcessError(line or f"the program exited with status {called.status}")
-    # A series that the program read itself may have been changed meanwhile.
-    for stretch in task.inputs:
-        if is_whole(stretch):
-            blocks.check_stamp(stretch.segments[0])
-    return Made(0.0, time.perf_counter() - started, rows)
+    if feeds.error is not None:
+        raise feeds.error
+    return Made(0.0, seconds, sum(one.end - one.begin for its in ranges.values() for one in its))
 
 
-def laid_out(task: Task, folder: str) -> tuple[list[str], int]:
-    """Writes the query and the rows of each input to a folder: the arguments of `run`, and how many rows they are."""
-    query = os.path.join(folder, "query.tilt")
-    with open(query, "w", encoding="utf-8", newline="") as file:
-        file.write(task.query)
-    files = {stretch.name: given(stretch, folder) for stretch in task.inputs}
-    return [query, *(f"{name}={path}" for name, (path, _) in files.items())], sum(rows for _, rows in files.values())
+class Feeds:
+    """Rows on their way to the program: a thread for each input writes them to a pipe."""
+
+    def __init__(self) -> None:
+        self.readers: list[int] = []
+        self.threads: list[threading.Thread] = []
+        self.error: OSError | Refused | None = None
+
+    def __enter__(self) -> Feeds:
+        return self
+
+    def begin(self, ranges: list[Range]) -> str:
+        """The name under which the program reads rows, if it is handed the readers."""
+        reader, writer = os.pipe()
+        self.readers.append(reader)
+        with contextlib.suppress(OSError):
+            fcntl.fcntl(writer, fcntl.F_SETPIPE_SZ, PIPE)
+        self.threads.append(threading.Thread(target=self.feed, args=(ranges, writer)))
+        self.threads[-1].start()
+        return f"/dev/fd/{reader}"
+
+    def feed(self, ranges: list[Range], writer: int) -> None:
+        try:
+            write_rows(ranges, writer)
+        except (OSError, Refused) as error:
+            self.error = error
+        finally:
+            os.close(writer)
+
+    def __exit__(self, *_: object) -> None:
+        # A thread whose reader has gone ends.
+        for reader in self.readers:
+            os.close(reader)
+        for thread in self.threads:
+            thread.join()
 
 
-def given(stretch: Stretch, folder: str) -> tuple[str, int]:
-    """A file with the rows of an input that a part needs, and how many rows they are: the series itself if the part needs all of it, and
-    otherwise a file in the folder."""
-    if is_whole(stretch):
-        segment = stretch.segments[0]
-        if segment.whole:
-            blocks.check_stamp(segment)
-            return segment.path, segment.rows
-        data = blocks.bytes_of(segment)
-        if blocks.trimmed(data, stretch.low, stretch.high) == (0, len(data), 0):
-            return segment.path, segment.rows
-    path, rows = rows_path(folder, stretch.name), 0
-    with open(path, "wb") as file:
-        file.write(HEADER_LINE)
-        for segment in stretch.segments:
-            data = blocks.bytes_of(segment)
-            begin, end, left = blocks.trimmed(data, stretch.low, stretch.high)
-            file.write(memoryview(data)[begin:end])
-            file.write(b"" if data.endswith(b"\n", begin, end) or begin == end else b"\n")
-            rows += segment.rows - left
-    return path, rows
+def write_rows(ranges: list[Range], out: int) -> None:
+    """Writes a series of these rows. The system copies them."""
+    os.write(out, HEADER_LINE)
+    for series, begin, end in ranges:
+        with opened(series.file, series.path) as source:
+            copy(source, out, begin, end)
+            if os.pread(source, 1, end - 1) != b"\n":
+                os.write(out, b"\n")
 
 
-def is_whole(stretch: Stretch) -> bool:
-    """Whether the rows are those of one file, from its header to its end. The program takes no name that isn't UTF-8."""
-    if len(stretch.segments) != 1:
+def ranges_of(stretch: Stretch, plain: str, processes: Processes) -> list[Range]:
+    """The rows of an input that a part needs, file by file."""
+    found = []
+    for series in stretch.files:
+        try:
+            found.append(range_of(series, stretch.low, stretch.high))
+        except NotPlain:
+            check_stamp(series)
+            copied = plain_of(series.path, series.stamp, plain, processes.check)
+            found += [range_of(copied, stretch.low, stretch.high)] if copied is not None else []
+    return [one for one in found if one.begin < one.end]
+
+
+def is_whole(ranges: list[Range]) -> bool:
+    """Whether the rows are all of one file, which is handed to the program as it is. It takes no name that isn't UTF-8."""
+    if len(ranges) != 1 or not is_all(ranges[0]):
         return False
-    segment = stretch.segments[0]
-    ends = segment.offset <= LONGEST_HEADER and segment.offset + segment.length == segment.stamp[0]
-    return ends and segment.file == segment.path and segment.path == os.fsencode(segment.path).decode(errors="replace")
+    return ranges[0].series.file == os.fsencode(ranges[0].series.file).decode(errors="replace")
 
 
-def rows_path(folder: str, name: str) -> str:
-    return os.path.join(folder, f"rows.{name}.csv")
+def place_of(line: str, query: str, ranges: dict[str, list[Range]]) -> Refusal | None:
+    """The place of what the program rejected. Of a row of a part it is the line of the series that the row is from."""
+    with scratch() as folder:
+        files = {name: its[0].series.file if is_whole(its) else os.path.join(folder, name) for name, its in ranges.items()}
+        for name, its in ranges.items():
+            if not is_whole(its):
+                with open(files[name], "wb") as out:
+                    write_rows(its, out.fileno())
+        found = refusal_of(line, [query, *(f"{name}={path}" for name, path in files.items())])
+        for name, its in ranges.items():
+            if found is not None and found.line is not None and found.file == files[name] and not is_whole(its):
+                file, number = place_in(its, found.line)
+                return dataclasses.replace(found, file=file, line=number)
+    return found
 
 
-def place_in(stretch: Stretch, line: int) -> tuple[str, int]:
+def place_in(ranges: list[Range], line: int) -> tuple[str, int]:
     """The series and its line that a line of the rows of a part was, both from 1. The first line of the part's rows is the header."""
     left = line - 2
-    for segment in stretch.segments:
-        data = blocks.bytes_of(segment)
-        begin, end, _ = blocks.trimmed(data, stretch.low, stretch.high)
-        count = data.count(b"\n", begin, end) + (begin < end and not data.endswith(b"\n", begin, end))
-        if left < count:
-            with open(segment.file, "rb") as file:
-                before = file.read(segment.offset + begin)
-            return segment.file, before.count(b"\n") + left + 1
+    for series, begin, end in ranges:
+        with opened(series.file, series.path) as source:
+            count = lines_in(source, begin, end) + (os.pread(source, 1, end - 1) != b"\n")
+            if left < count:
+                return series.path, lines_in(source, 0, begin) + left + 1
         left -= count
-    return stretch.name, line
+    raise ValueError(line)
+
+
+def lines_in(source: int, begin: int, end: int) -> int:
+    """How many lines end in these bytes of a file."""
+    pieces = (os.pread(source, min(1 << 20, end - at), at) for at in range(begin, end, 1 << 20))
+    return sum(piece.count(b"\n") for piece in pieces)
 
 
 @task
