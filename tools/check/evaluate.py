@@ -12,12 +12,15 @@ import csv
 import functools
 import re
 import sys
-from typing import Callable, Iterable, Mapping
+from typing import Callable, Generic, Iterable, Mapping, TypeVar
 
 # Cells: None is null, and any number but 0 is true.
 Cell = int | None
 Row = tuple[int, int, Cell]
 Binary = Callable[[Cell, Cell], Cell]
+# Numbers of any kind, and what is made of an expression.
+N = TypeVar("N")
+X = TypeVar("X")
 
 
 def within_64_bits(number: int) -> Cell:
@@ -70,10 +73,11 @@ def choose(c: Cell, a: Cell, b: Cell) -> Cell:
 # Streams
 
 
-class Stream:
-    """A cell at each tick, and the ticks that have a mark, in order. They are finitely many in every stream of a query."""
+class Stream(Generic[N]):
+    """A cell at each tick, and the ticks that have a mark, in order. They are finitely many in every stream of a query. Cells have numbers
+    of any kind, or are null."""
 
-    def __init__(self, cell: Callable[[int], Cell], marks: Iterable[int]) -> None:
+    def __init__(self, cell: Callable[[int], N | None], marks: Iterable[int]) -> None:
         self.cell = functools.lru_cache(maxsize=None)(cell)
         self.marks = sorted(set(marks))
 
@@ -81,10 +85,10 @@ class Stream:
 # Rows
 
 
-def of_rows(rows: list[Row]) -> Stream:
+def of_rows(rows: list[tuple[int, int, N | None]]) -> Stream[N]:
     starts = [start for start, _, _ in rows]
 
-    def cell(tick: int) -> Cell:
+    def cell(tick: int) -> N | None:
         # The one row that can cover the tick is the last that starts before it.
         at = bisect.bisect_left(starts, tick) - 1
         return rows[at][2] if at >= 0 and tick <= rows[at][1] else None
@@ -95,15 +99,15 @@ def of_rows(rows: list[Row]) -> Stream:
 # Expressions
 
 
-def constant(number: Cell) -> Stream:
+def constant(number: N | None) -> Stream[N]:
     return Stream(lambda tick: number, [])
 
 
-def shifted(x: Stream, offset: int) -> Stream:
+def shifted(x: Stream[N], offset: int) -> Stream[N]:
     return Stream(lambda tick: x.cell(tick + offset), [mark - offset for mark in x.marks])
 
 
-def lifted(rule: Callable[..., Cell], *operands: Stream) -> Stream:
+def lifted(rule: Callable[..., N | None], *operands: Stream[N]) -> Stream[N]:
     """An operator: the cells of each tick by itself, and a mark where an operand has one."""
     return Stream(
         lambda tick: rule(*(operand.cell(tick) for operand in operands)), [mark for operand in operands for mark in operand.marks]
@@ -113,7 +117,7 @@ def lifted(rule: Callable[..., Cell], *operands: Stream) -> Stream:
 # Windows
 
 
-def met(x: Stream, lo: int, hi: int) -> list[Cell]:
+def met(x: Stream[N], lo: int, hi: int) -> list[N | None]:
     """The cells of the snapshots that the ticks of `(lo, hi]` meet: the first tick counts as the beginning of one."""
     begins = [lo + 1] + x.marks[bisect.bisect_right(x.marks, lo + 1) : bisect.bisect_right(x.marks, hi)]
     return [x.cell(tick) for tick in begins]
@@ -132,10 +136,10 @@ REDUCERS: dict[str, Callable[[list[int]], Cell]] = {
 }
 
 
-def windowed(reducer: str, x: Stream, low: int, high: int) -> Stream:
-    def cell(tick: int) -> Cell:
+def windowed(reduce: Callable[[list[N]], N | None], x: Stream[N], low: int, high: int) -> Stream[N]:
+    def cell(tick: int) -> N | None:
         numbers = [number for number in met(x, tick + low, tick + high) if number is not None]
-        return REDUCERS[reducer](numbers) if numbers else None
+        return reduce(numbers) if numbers else None
 
     # One where the source has one at the window's last tick, or at its first.
     return Stream(cell, [mark - end for mark in x.marks for end in (high, low + 1)])
@@ -144,7 +148,7 @@ def windowed(reducer: str, x: Stream, low: int, high: int) -> Stream:
 # Grids
 
 
-def on_grid(x: Stream, period: int, offset: int) -> Stream:
+def on_grid(x: Stream[N], period: int, offset: int) -> Stream[N]:
     """The cell of the least grid point that isn't below the tick, and a mark after the greatest that is below a mark."""
     return Stream(
         lambda tick: x.cell(-((offset - tick) // period) * period + offset),
@@ -155,7 +159,7 @@ def on_grid(x: Stream, period: int, offset: int) -> Stream:
 # Spans
 
 
-def restricted(x: Stream, lo: int, hi: int) -> Stream:
+def restricted(x: Stream[N], lo: int, hi: int) -> Stream[N]:
     return Stream(
         lambda tick: x.cell(tick) if lo < tick <= hi else None, [lo + 1, hi + 1] + [mark for mark in x.marks if lo + 2 <= mark <= hi]
     )
@@ -164,7 +168,7 @@ def restricted(x: Stream, lo: int, hi: int) -> Stream:
 # Snapshots and output
 
 
-def snapshots(x: Stream, lo: int, hi: int) -> list[Row]:
+def snapshots(x: Stream[N], lo: int, hi: int) -> list[tuple[int, int, N | None]]:
     starts = [lo] + [mark - 1 for mark in x.marks if lo + 2 <= mark <= hi]
     return [(start, end, x.cell(start + 1)) for start, end in zip(starts, starts[1:] + [hi])]
 
@@ -204,14 +208,43 @@ LEVELS.update({sign: (5, 6, 6) for sign in ("==", "!=", "<", "<=", ">", ">=")})
 LEVELS.update({"+": (6, 6, 7), "-": (6, 6, 7), "*": (7, 7, 8), "/": (7, 7, 8), "%": (7, 7, 8)})
 
 
-class Reader:
-    """Reads tokens from the first on, and makes the stream of each expression over the sources before it."""
+class Grammar(Generic[X]):
+    """Reads tokens from the first on, and makes something of each expression over the sources before it: what those methods do that have
+    no body here."""
 
-    def __init__(self, tokens: list[str], inputs: Mapping[str, list[Row]]) -> None:
+    def __init__(self, tokens: list[str]) -> None:
         self.tokens = tokens + ["the end"]
         self.at = 0
-        self.inputs = inputs
-        self.sources: dict[str, Stream] = {}
+        self.statement = 0
+        self.sources: dict[str, X] = {}
+
+    def of_input(self, name: str) -> X:
+        raise NotImplementedError
+
+    def of_number(self, token: str) -> X:
+        raise NotImplementedError
+
+    def of_truth(self, holds: bool) -> X:
+        raise NotImplementedError
+
+    def before(self, sign: str, x: X) -> X:
+        raise NotImplementedError
+
+    def between(self, sign: str, x: X, y: X) -> X:
+        raise NotImplementedError
+
+    def chosen(self, c: X, x: X, y: X) -> X:
+        raise NotImplementedError
+
+    def moved(self, x: X, offset: int) -> X:
+        raise NotImplementedError
+
+    def reduced(self, reducer: str, x: X, low: int, high: int) -> X:
+        raise NotImplementedError
+
+    def taken(self, x: X, grid: tuple[int, int] | None, span: tuple[int, int] | None) -> X:
+        """An expression, taken on its grid and then restricted to its span."""
+        raise NotImplementedError
 
     def takes(self, token: str) -> bool:
         found = self.tokens[self.at] == token
@@ -226,13 +259,13 @@ class Reader:
         self.at += 1
         return token
 
-    def expression(self, level: int = 0) -> Stream:
+    def expression(self, level: int = 0) -> X:
         if level == 0 and self.takes("if"):
             return self.choice()
         if level <= 4 and self.takes("not"):
-            left, has = lifted(BEFORE["not"], self.expression(4)), 4
+            left, has = self.before("not", self.expression(4)), 4
         elif level <= 8 and self.takes("-"):
-            left, has = lifted(BEFORE["-"], self.expression(8)), 8
+            left, has = self.before("-", self.expression(8)), 8
         else:
             left, has = self.atom(), 9
         while True:
@@ -241,21 +274,21 @@ class Reader:
             if own < level or has < wanted:
                 return left
             self.take()
-            left, has = lifted(BETWEEN[sign], left, self.expression(right)), own
+            left, has = self.between(sign, left, self.expression(right)), own
 
-    def choice(self) -> Stream:
+    def choice(self) -> X:
         c = self.expression()
         self.take("then")
         a = self.expression()
         self.take("else")
-        return lifted(choose, c, a, self.expression())
+        return self.chosen(c, a, self.expression())
 
-    def atom(self) -> Stream:
+    def atom(self) -> X:
         token = self.take()
-        if token.isdigit():
-            return constant(int(token))
+        if token[0].isdigit():
+            return self.of_number(token)
         if token in ("true", "false"):
-            return constant(int(token == "true"))
+            return self.of_truth(token == "true")
         if token == "(":
             inner = self.expression()
             self.take(")")
@@ -269,20 +302,20 @@ class Reader:
             return x
         offset = self.offset()
         self.take("]")
-        return shifted(x, offset)
+        return self.moved(x, offset)
 
-    def null_test(self, token: str) -> Stream:
+    def null_test(self, token: str) -> X:
         self.take("(")
         a = self.expression()
         if token == "isnull":
             self.take(")")
-            return lifted(BEFORE[token], a)
+            return self.before(token, a)
         self.take(",")
         b = self.expression()
         self.take(")")
-        return lifted(BETWEEN[token], a, b)
+        return self.between(token, a, b)
 
-    def window(self, reducer: str) -> Stream:
+    def window(self, reducer: str) -> X:
         self.take("(")
         x = self.sources[self.take()]
         self.take("[")
@@ -291,7 +324,7 @@ class Reader:
         high = self.offset()
         self.take("]")
         self.take(")")
-        return windowed(reducer, x, low, high)
+        return self.reduced(reducer, x, low, high)
 
     def offset(self) -> int:
         self.take("t")
@@ -302,10 +335,10 @@ class Reader:
     def bound(self) -> int:
         return -int(self.take()) if self.takes("-") else int(self.take())
 
-    def definition(self) -> tuple[Stream, tuple[int, int] | None]:
-        """An expression, taken on its grid and then restricted to its span; and the span, or None."""
+    def definition(self) -> tuple[X, tuple[int, int] | None]:
+        """What is made of a definition; and its span, or None."""
         x = self.expression()
-        span = None
+        grid, span = None, None
         if self.takes("over"):
             self.take("(")
             lo = self.bound()
@@ -314,26 +347,68 @@ class Reader:
             self.take("]")
         if self.takes("every"):
             period = int(self.take())
-            x = on_grid(x, period, int(self.take()) if self.takes("from") else 0)
+            grid = period, int(self.take()) if self.takes("from") else 0
         self.take(";")
-        return (restricted(x, *span) if span else x), span
+        return self.taken(x, grid, span), span
 
-    def query(self) -> list[Row]:
-        """The snapshots of the emitted stream on the output domain."""
+    def emitted(self) -> tuple[X, tuple[int, int]]:
+        """What is made of the emitted definition of a query, and its output domain."""
         while True:
+            self.statement += 1
             word = self.take("input", "let", "emit")
             if word == "emit":
                 emitted, domain = self.definition()
                 self.take("the end")
                 assert domain is not None
-                return snapshots(emitted, *domain)
+                return emitted, domain
             name = self.take()
             if word == "input":
                 self.take(";")
-                self.sources[name] = of_rows(self.inputs[name])
+                self.sources[name] = self.of_input(name)
             else:
                 self.take("=")
                 self.sources[name], _ = self.definition()
+
+
+class Reader(Grammar[Stream[int]]):
+    """Makes the stream of each expression, over the rows of inputs."""
+
+    def __init__(self, tokens: list[str], inputs: Mapping[str, list[Row]]) -> None:
+        super().__init__(tokens)
+        self.inputs = inputs
+
+    def of_input(self, name: str) -> Stream[int]:
+        return of_rows(self.inputs[name])
+
+    def of_number(self, token: str) -> Stream[int]:
+        return constant(int(token))
+
+    def of_truth(self, holds: bool) -> Stream[int]:
+        return constant(int(holds))
+
+    def before(self, sign: str, x: Stream[int]) -> Stream[int]:
+        return lifted(BEFORE[sign], x)
+
+    def between(self, sign: str, x: Stream[int], y: Stream[int]) -> Stream[int]:
+        return lifted(BETWEEN[sign], x, y)
+
+    def chosen(self, c: Stream[int], x: Stream[int], y: Stream[int]) -> Stream[int]:
+        return lifted(choose, c, x, y)
+
+    def moved(self, x: Stream[int], offset: int) -> Stream[int]:
+        return shifted(x, offset)
+
+    def reduced(self, reducer: str, x: Stream[int], low: int, high: int) -> Stream[int]:
+        return windowed(REDUCERS[reducer], x, low, high)
+
+    def taken(self, x: Stream[int], grid: tuple[int, int] | None, span: tuple[int, int] | None) -> Stream[int]:
+        x = on_grid(x, *grid) if grid else x
+        return restricted(x, *span) if span else x
+
+    def query(self) -> list[Row]:
+        """The snapshots of the emitted stream on the output domain."""
+        emitted, domain = self.emitted()
+        return snapshots(emitted, *domain)
 
 
 # Pipelines: each step makes a list of snapshots that touch, null ones included, from the list before it.

@@ -284,7 +284,7 @@ def query_of(text: str) -> Query:
     return Query(inputs, definitions)
 
 
-def emitted(query: Query, inputs: Mapping[str, Stream]) -> Stream:
+def emitted(query: Query, inputs: Mapping[str, Stream[int]]) -> Stream[int]:
     """What a query emits, if its inputs are these streams."""
     sources = dict(inputs)
     for definition in query.definitions:
@@ -338,7 +338,7 @@ def horizon_of(query: Query, feed: Feed) -> int:
 # Sure marks
 
 
-def with_sure_marks(finished: bool, known: InputFeed) -> Stream:
+def with_sure_marks(finished: bool, known: InputFeed) -> Stream[int]:
     """An input with its sure marks alone: those up to its horizon, and the one after its watermark if a closed row ends there."""
     now = of_rows(rows_now(known))
     horizon = input_horizon(finished, known)

@@ -1,60 +1,79 @@
 -- Why a feed isn't begun.
-use Rattle.std.proofs.Common.{◌≡◌, ℕ, List, Some, Ok, ap, sym, subst, ◌∙◌}
+use Rattle.std.proofs.Common.{◌≡◌, ℕ, List, Option, None, Some, Ok, ap, sym, subst, ◌∙◌}
 use Rattle.tilt_bounds.specs.Margins.{margins_of}
 use Rattle.tilt_checkpoint.specs.Valid.{IsAccepted}
 use Rattle.tilt_compiler.specs.Accepted.{AcceptedParts, IsAccepted as IsCompiled}
 use Rattle.tilt_core.specs.Core.{CoreParts}
 use Rattle.tilt_live_app.specs.Arguments.{CommandValue}
-use Rattle.tilt_live_app.specs.Asked.{IsUnchosen, form_asked}
-use Rattle.tilt_live_app.specs.BeginReport.{BeginReport, no_input, shared}
-use Rattle.tilt_live_app.specs.Begun.{HasTaken, IsUnbegun, no_memory, refused, state_refused, state_unread, unread, unscaled}
+use Rattle.tilt_live_app.specs.Asked.{IsUnscaled, form_asked, named_scales}
+use Rattle.tilt_input_scales.specs.Scales.{ScalesValue}
+use Rattle.tilt_live_app.specs.BeginReport.{BeginReport, begin_of_units, in_units, no_input, shared}
+use Rattle.tilt_live_app.specs.Begun.{HasTaken, IsUnbegun, no_memory, refused, refused_in_units, state_refused, state_unread, unread, unscaled}
 use Rattle.tilt_live_app.specs.Change.{shelf_change}
 use Rattle.tilt_live_app.specs.StateFile.{RefusesState}
 use Rattle.tilt_load.specs.Load.{IsLoadFault}
 use Rattle.tilt_load.specs.QueryFile.{RefusesQuery}
 use Rattle.tilt_outside.proofs.Puts.{rose_from}
 use Rattle.tilt_outside.specs.Reads.{OnlyReads}
-use Rattle.tilt_reading_options.specs.Values.{ChoiceValue}
 use Rattle.tilt_report.specs.Report.{Report, out_of_memory, read_fault, refusal, save_fault, usage, write_fault}
 use Rattle.tilt_syntax.specs.Query.{IsQuery}
 use Rattle.tilt_syntax.specs.Tree.{StatementTree}
 use Rattle.tilt_types.proofs.CheckedCore.{checked-core}
 use Rattle.tilt_types.specs.Checked.{checked}
+use Rattle.tilt_unit_load.specs.UnitFile.{IsUnitLoadFault}
+use Rattle.tilt_unit_load.specs.UnitReport as units
+use Rattle.tilt_unit_load.specs.UnitReport.{UnitReport}
 
 module _ {S : Type 0} (tells : Type 0) (files : S → List ℕ → List ℕ) (read_faults save_faults : S → ℕ) (takes : S → List ℕ → ℕ → Type 0) (command : CommandValue) where
-  -- a query that wasn't loaded
-  pub load-unbegun : (old new : S) (report : Report)
+  -- a query over whole numbers that wasn't loaded
+  pub load-unbegun : (old new : S) (report : Report) → command.units ≡ None
       → IsLoadFault tells (RefusesQuery command.query (files old command.query)) (λ which. which ≡ command.query) (read_faults old) (read_faults new) report
       → IsUnbegun (shelf_change tells files read_faults save_faults old new) command (shared report)
-  load-unbegun old new usage fault = absurd fault
-  load-unbegun old new (refusal why) fault = refused fault
-  load-unbegun old new (read_fault name) fault = rw fault.1 (unread fault.0)
-  load-unbegun old new write_fault fault = absurd fault
-  load-unbegun old new (save_fault name) fault = absurd fault
-  load-unbegun old new out_of_memory fault = no_memory
+  load-unbegun old new usage whole fault = absurd fault
+  load-unbegun old new (refusal why) whole fault = refused whole fault
+  load-unbegun old new (read_fault name) whole fault = rw fault.1 (unread fault.0)
+  load-unbegun old new write_fault whole fault = absurd fault
+  load-unbegun old new (save_fault name) whole fault = absurd fault
+  load-unbegun old new out_of_memory whole fault = no_memory
+
+  -- a query in units that wasn't loaded
+  pub units-unbegun : (old new : S) (scales : ScalesValue) (report : UnitReport) → command.units ≡ Some scales
+      → IsUnitLoadFault tells command.query (files old command.query) scales (read_faults old) (read_faults new) report
+      → IsUnbegun (shelf_change tells files read_faults save_faults old new) command (begin_of_units report)
+  units-unbegun old new scales (units.shared usage) is fault = absurd fault
+  units-unbegun old new scales (units.shared (refusal why)) is fault = refused_in_units scales is fault
+  units-unbegun old new scales (units.shared (read_fault name)) is fault = rw fault.1 (unread fault.0)
+  units-unbegun old new scales (units.shared write_fault) is fault = absurd fault
+  units-unbegun old new scales (units.shared (save_fault name)) is fault = absurd fault
+  units-unbegun old new scales (units.shared out_of_memory) is fault = no_memory
+  units-unbegun old new scales (units.own own) is fault = refused_in_units scales is fault
 
   -- scales that aren't those of the query's inputs, after the query was loaded
-  pub scales-unbegun : (old new : S) (choice : ChoiceValue) (query : List StatementTree) (core : CoreParts) → command.readings ≡ Some choice
-      → HasTaken tells (files old command.query) query core → (report : BeginReport) → IsUnchosen choice core.inputs report
+  pub scales-unbegun : (old new : S) (query : List StatementTree) (core : CoreParts) (decimals : Option ℕ)
+      → HasTaken tells (files old command.query) command.units query core decimals → (report : BeginReport)
+      → IsUnscaled (named_scales command.readings command.units) core.inputs report
       → IsUnbegun (shelf_change tells files read_faults save_faults old new) command report
-  scales-unbegun old new choice query core is taken (no_input name) missing = unscaled choice query core name is taken missing
-  scales-unbegun old new choice query core is taken (shared report) none = rw none no_memory
+  scales-unbegun old new query core decimals taken (no_input name) missing = unscaled query core decimals name taken missing
+  scales-unbegun old new query core decimals taken (in_units fault) none = absurd none
+  scales-unbegun old new query core decimals taken (shared report) none = rw none no_memory
 
   -- a state that wasn't loaded, after the query was
-  pub state-unbegun : (old mid new : S) (file : List ℕ) (query : List StatementTree) (core : CoreParts) → OnlyReads files read_faults save_faults takes old mid
-      → command.resume ≡ Some file → HasTaken tells (files old command.query) query core → (report : Report)
+  pub state-unbegun : (old mid new : S) (file : List ℕ) (query : List StatementTree) (core : CoreParts) (decimals : Option ℕ)
+      → OnlyReads files read_faults save_faults takes old mid → command.resume ≡ Some file
+      → HasTaken tells (files old command.query) command.units query core decimals → (report : Report)
       → IsLoadFault tells (RefusesState query (form_asked command.readings command.asked.watermarks core.inputs) file (files mid file)) (λ which. which ≡ file)
       (read_faults mid) (read_faults new) report
       → IsUnbegun (shelf_change tells files read_faults save_faults old new) command (shared report)
-  state-unbegun old mid new file query core reads is taken usage fault = absurd fault
-  state-unbegun old mid new file query core reads is taken (refusal why) fault =
+  state-unbegun old mid new file query core decimals reads is taken usage fault = absurd fault
+  state-unbegun old mid new file query core decimals reads is taken (refusal why) fault =
       let same = ap (λ (held : List ℕ → List ℕ). held file) reads.same_files in
-      state_refused file query core is taken (λ t. subst (λ (bytes : List ℕ). RefusesState query (form_asked command.readings command.asked.watermarks core.inputs) file bytes why) same (fault t))
-  state-unbegun old mid new file query core reads is taken (read_fault name) fault =
+      state_refused file query core decimals is taken
+      (λ t. subst (λ (bytes : List ℕ). RefusesState query (form_asked command.readings command.asked.watermarks core.inputs) file bytes why) same (fault t))
+  state-unbegun old mid new file query core decimals reads is taken (read_fault name) fault =
       rw fault.1 (state_unread file is (rose_from (read_faults old) (read_faults mid) (read_faults new) reads.no_fewer_read_faults fault.0))
-  state-unbegun old mid new file query core reads is taken write_fault fault = absurd fault
-  state-unbegun old mid new file query core reads is taken (save_fault name) fault = absurd fault
-  state-unbegun old mid new file query core reads is taken out_of_memory fault = no_memory
+  state-unbegun old mid new file query core decimals reads is taken write_fault fault = absurd fault
+  state-unbegun old mid new file query core decimals reads is taken (save_fault name) fault = absurd fault
+  state-unbegun old mid new file query core decimals reads is taken out_of_memory fault = no_memory
 
 -- a query that was accepted is one that a state may be of
 pub accepted-query : (query : List StatementTree) (a : AcceptedParts) → IsQuery query → checked query ≡ Ok a.core → IsCompiled a → IsAccepted query

@@ -1,5 +1,5 @@
 -- Arguments are one command at most.
-use Rattle.std.proofs.Common.{◌≡◌, ◌==◌, ℕ, false, List, [], ◌∷◌, Option, None, Some, Ok, length, codes, String, string_bytes, refl, sym, ap, ◌∙◌, subst}
+use Rattle.std.proofs.Common.{◌≡◌, ◌==◌, ℕ, Bool, true, false, List, [], ◌∷◌, Option, None, Some, Ok, length, codes, String, string_bytes, refl, sym, ap, ◌∙◌, subst}
 use Rattle.std.proofs.lemmas.Bool.{false≢true}
 use Rattle.std.specs.declared.alloc.Global.{Global}
 use Rattle.tilt_cli.specs.Arguments.{ArgumentsValue, AreArguments, no_arguments}
@@ -10,8 +10,8 @@ use Rattle.tilt_cli.specs.declared.bind.Bind.{Bind}
 use Rattle.tilt_cli.proofs.Determined.{same_arguments}
 use Rattle.tilt_live_app.specs.Arguments.{CommandValue, IsLiveCommand, asked_options, chosen, task_asked}
 use Rattle.tilt_live_app.specs.LiveOptions.{live_options, options_fit}
-use Rattle.tilt_live_app.specs.Readings.{AreSaid, reading_texts, text_at}
-use Rattle.tilt_reading_options.specs.Choice.{choice_said}
+use Rattle.tilt_input_scales.specs.Scales.{ScalesValue}
+use Rattle.tilt_live_app.specs.Readings.{AreInUnits, AreSaid, reading_texts, text_at}
 use Rattle.tilt_reading_options.specs.Texts.{TextsValue}
 use Rattle.tilt_reading_options.specs.Values.{ChoiceValue}
 
@@ -33,6 +33,16 @@ said_once None (Some choice) other said also = absurd said
 said_once (Some texts) None other said also = absurd said
 said_once (Some texts) (Some choice) None said also = absurd also
 said_once (Some texts) (Some choice) (Some other) said also = let same : Ok other ≡ Ok choice = sym also ∙ said in cc
+
+-- a text says scales once at most
+units_once : (in_units : Bool) (text : Option (List ℕ)) (units other : Option ScalesValue) → AreInUnits in_units text units → AreInUnits in_units text other
+    → other ≡ units
+units_once false text None None said also = refl
+units_once false text None (Some other) said also = absurd also
+units_once false text (Some scales) other said also = absurd said
+units_once true text None other said also = absurd said
+units_once true text (Some scales) None said also = absurd also
+units_once true text (Some scales) (Some other) said also = let same : Ok other ≡ Ok scales = sym also ∙ said in cc
 
 module _ (words : List (List ℕ)) (query : List ℕ) (rest : List (List ℕ)) (front : words ≡ query ∷ rest) where
   -- what the arguments after the file give
@@ -59,12 +69,21 @@ module _ (words : List (List ℕ)) (query : List ℕ) (rest : List (List ℕ)) (
     with_unsaid unsaid command is =
         unsaid command.readings (subst (λ (g : ArgumentsValue). AreSaid (reading_texts g.settings) command.readings) (same_given command is) is.readings_are)
 
+    -- if the scales of a query in units are none, neither
+    pub with_unscaled : ((units : Option ScalesValue) → ¬ (AreInUnits (is_set (codes "--units") given.settings) (text_at (codes "--scale") given.settings) units))
+        → (command : CommandValue) → ¬ (IsLiveCommand words command)
+    with_unscaled unsaid command is =
+        unsaid command.units (subst (λ (g : ArgumentsValue). AreInUnits (is_set (codes "--units") g.settings) (text_at (codes "--scale") g.settings) command.units)
+        (same_given command is) is.units_are)
+
     -- they are no other command
     pub only_said : (command : CommandValue) → command.query ≡ query → command.plain ≡ is_set (codes "--plain") given.settings → command.dated ≡ is_set (codes "--times") given.settings
-        → command.asked ≡ asked_options given.settings → AreSaid (reading_texts given.settings) command.readings → command.resume ≡ text_at (codes "--resume") given.settings
+        → command.asked ≡ asked_options given.settings → AreSaid (reading_texts given.settings) command.readings
+        → AreInUnits (is_set (codes "--units") given.settings) (text_at (codes "--scale") given.settings) command.units
+        → command.resume ≡ text_at (codes "--resume") given.settings
         → command.save ≡ text_at (codes "--save") given.settings
         → command.folder ≡ chosen (task_asked given.settings) (text_at (codes "--folder") given.settings) → (other : CommandValue) → IsLiveCommand words other → other ≡ command
-    only_said command queries plains dateds asked readings resumes saves folders other is =
+    only_said command queries plains dateds asked readings units resumes saves folders other is =
         let words_same : query ∷ rest ≡ other.query ∷ is.rest = sym front ∙ is.words_are in
         let same = same_given other is in
         let query_same : other.query ≡ command.query = cc in
@@ -73,6 +92,8 @@ module _ (words : List (List ℕ)) (query : List ℕ) (rest : List (List ℕ)) (
         let asked_same = is.asked_is ∙ ap (λ (g : ArgumentsValue). asked_options g.settings) same ∙ sym asked in
         let readings_same = said_once (reading_texts given.settings) command.readings other.readings readings
         (subst (λ (g : ArgumentsValue). AreSaid (reading_texts g.settings) other.readings) same is.readings_are) in
+        let units_same = units_once (is_set (codes "--units") given.settings) (text_at (codes "--scale") given.settings) command.units other.units units
+        (subst (λ (g : ArgumentsValue). AreInUnits (is_set (codes "--units") g.settings) (text_at (codes "--scale") g.settings) other.units) same is.units_are) in
         let resume_same = is.resume_is ∙ ap (λ (g : ArgumentsValue). text_at (codes "--resume") g.settings) same ∙ sym resumes in
         let save_same = is.save_is ∙ ap (λ (g : ArgumentsValue). text_at (codes "--save") g.settings) same ∙ sym saves in
         let folder_same = is.folder_is ∙ ap (λ (g : ArgumentsValue). chosen (task_asked g.settings) (text_at (codes "--folder") g.settings)) same ∙ sym folders in
@@ -82,6 +103,7 @@ module _ (words : List (List ℕ)) (query : List ℕ) (rest : List (List ℕ)) (
           dated = dated_same i;
           asked = asked_same i;
           readings = readings_same i;
+          units = units_same i;
           resume = resume_same i;
           save = save_same i;
           folder = folder_same i;

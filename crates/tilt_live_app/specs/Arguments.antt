@@ -3,8 +3,9 @@ use Rattle.std.specs.Prelude.{◌≡◌, ℕ, min, Bool, true, false, List, [], 
 use Rattle.tilt_cli.specs.Arguments.{AreArguments, ArgumentsValue, no_arguments}
 use Rattle.tilt_cli.specs.Command.{IsFile}
 use Rattle.tilt_cli.specs.Options.{SettingValue, is_set, set_to, ticks_of}
+use Rattle.tilt_input_scales.specs.Scales.{ScalesValue}
 use Rattle.tilt_live_app.specs.LiveOptions.{live_options, options_fit}
-use Rattle.tilt_live_app.specs.Readings.{AreSaid, reading_texts, text_at}
+use Rattle.tilt_live_app.specs.Readings.{AreInUnits, AreSaid, reading_texts, text_at}
 use Rattle.tilt_live_app.specs.declared.arguments.FolderChoice.{FolderChoice}
 use Rattle.tilt_live_app.specs.declared.arguments.LiveCommand.{LiveCommand}
 use Rattle.tilt_live_app.specs.declared.arguments.Task.{Task}
@@ -59,7 +60,7 @@ abbrev pub chosen : Task → Option (List ℕ) → Option FolderValue
 chosen task name = option_map (λ bytes. record { name = bytes; task = task }) name
 
 -- The file of the query; whether no loops are merged; whether times are written as dates; what is asked of the run. What the options of
--- readings say, if the feed has readings. If there are such files: that of the state that the run goes on from, and that in which its state
+-- readings say, if the feed has readings; and the scales of the inputs, if the query is in units. If there are such files: that of the state that the run goes on from, and that in which its state
 -- is saved. If there is one: the folder into which the feed is served
 pub record CommandValue : Type 0 where
   pub query : List ℕ
@@ -67,6 +68,7 @@ pub record CommandValue : Type 0 where
   pub dated : Bool
   pub asked : Asked
   pub readings : Option ChoiceValue
+  pub units : Option ScalesValue
   pub resume : Option (List ℕ)
   pub save : Option (List ℕ)
   pub folder : Option FolderValue
@@ -84,6 +86,7 @@ pub record IsLiveCommand (words : List (List ℕ)) (command : CommandValue) : Ty
   pub dated_is : command.dated ≡ is_set (codes "--times") given.settings
   pub asked_is : command.asked ≡ asked_options given.settings
   pub readings_are : AreSaid (reading_texts given.settings) command.readings
+  pub units_are : AreInUnits (is_set (codes "--units") given.settings) (text_at (codes "--scale") given.settings) command.units
   pub resume_is : command.resume ≡ text_at (codes "--resume") given.settings
   pub save_is : command.save ≡ text_at (codes "--save") given.settings
   pub folder_is : command.folder ≡ chosen (task_asked given.settings) (text_at (codes "--folder") given.settings)
@@ -100,6 +103,7 @@ command_value command = record {
   dated = command.dated;
   asked = command.asked;
   readings = command.readings;
+  units = command.units;
   resume = option_map (λ file. string_bytes file) command.resume;
   save = option_map (λ file. string_bytes file) command.save;
   folder = option_map choice_value command.folder;

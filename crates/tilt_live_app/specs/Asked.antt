@@ -1,13 +1,16 @@
 -- What a command asks of the run of a query (our own rule).
-use Rattle.std.specs.Prelude.{◌≡◌, ⊤, ℕ, Bool, if◌then◌else◌, List, Option, None, Some}
+use Rattle.std.specs.Prelude.{◌≡◌, ℕ, Bool, if◌then◌else◌, List, [], Option, None, Some}
 use Rattle.tilt_feed_form.specs.Setup.{SetupParts}
 use Rattle.tilt_feed_form.specs.declared.feed_form.FeedForm.TheVariants.{Readings, Rows}
 use Rattle.tilt_feed_form.specs.declared.feed_form.FeedForm.{FeedForm}
 use Rattle.tilt_live_app.specs.Arguments.{CommandValue}
-use Rattle.tilt_live_app.specs.BeginReport.{BeginReport, no_input, shared}
+use Rattle.tilt_input_scales.specs.Scales.{ScalesValue}
+use Rattle.tilt_input_scales.specs.declared.input_scale.InputScale.{InputScale}
+use Rattle.tilt_live_app.specs.BeginReport.{BeginReport, in_units, no_input, shared}
 use Rattle.tilt_live_run.specs.declared.display.Display.{Display}
 use Rattle.tilt_live_run.specs.declared.run_options.RunOptions.{RunOptions}
-use Rattle.tilt_reading_options.specs.Form.{form_for, missing_input, options_for}
+use Rattle.tilt_reading_options.specs.Form.{form_for, options_for}
+use Rattle.tilt_reading_options.specs.Scales.{missing_among}
 use Rattle.tilt_reading_options.specs.Values.{ChoiceValue}
 use Rattle.tilt_report.specs.Report.{out_of_memory}
 use Rattle.tilt_row_text.specs.declared.times.Times.TheVariants.{Dates, Ticks}
@@ -18,20 +21,26 @@ use Rattle.tilt_watermarks.specs.declared.options.Options.{Options}
 abbrev pub setup_for : ChoiceValue → List (List ℕ) → SetupParts
 setup_for choice inputs = record { form = form_for choice inputs; options = options_for choice inputs }
 
--- why a choice isn't one for inputs with these names: a name in its scales is missing, or there is no memory
-abbrev pub IsUnchosen : ChoiceValue → List (List ℕ) → BeginReport → Type 0
-IsUnchosen choice inputs (no_input name) = missing_input choice inputs ≡ Some name
-IsUnchosen choice inputs (shared report) = report ≡ out_of_memory
+-- the scales that have names: of readings, or of a query in units
+abbrev pub named_scales : Option ChoiceValue → Option ScalesValue → List InputScale
+named_scales None None = []
+named_scales None (Some scales) = scales.named
+named_scales (Some choice) units = choice.scales.named
+
+-- why scales aren't those of inputs with these names: one of them has another name, or there is no memory
+abbrev pub IsUnscaled : List InputScale → List (List ℕ) → BeginReport → Type 0
+IsUnscaled scales inputs (no_input name) = missing_among scales inputs ≡ Some name
+IsUnscaled scales inputs (in_units fault) = ⊥
+IsUnscaled scales inputs (shared report) = report ≡ out_of_memory
 
 -- the form of a feed: rows, with these options of its watermarks; or readings, if the options of readings say a choice
 abbrev pub form_asked : Option ChoiceValue → Options → List (List ℕ) → FeedForm
 form_asked None watermarks inputs = Rows watermarks
 form_asked (Some choice) watermarks inputs = Readings (setup_for choice inputs)
 
--- no name in the scales of a choice is missing
-abbrev pub IsScaled : Option ChoiceValue → List (List ℕ) → Type 0
-IsScaled None inputs = ⊤
-IsScaled (Some choice) inputs = missing_input choice inputs ≡ None
+-- each name in the scales that a command gives is that of an input
+abbrev pub IsScaled : CommandValue → List (List ℕ) → Type 0
+IsScaled command inputs = missing_among (named_scales command.readings command.units) inputs ≡ None
 
 -- how the times of readings are written
 abbrev pub times_for : ChoiceValue → Bool → Times
@@ -45,10 +54,18 @@ display_for (Some choice) dated display = record {
   style = record { times = times_for choice dated; decimals = display.style.decimals };
 }
 
--- the options of the run that a command asks for, for inputs with these names
-abbrev pub options_asked : CommandValue → List (List ℕ) → RunOptions
-options_asked command inputs = record {
-  display = display_for command.readings command.dated command.asked.display;
+-- the same with the decimals of a query in units, if it is one
+abbrev pub with_decimals : Option ℕ → Display → Display
+with_decimals None display = display
+with_decimals (Some decimals) display = record {
+  with_begun = display.with_begun;
+  style = record { times = display.style.times; decimals = decimals };
+}
+
+-- the options of the run that a command asks for, for inputs with these names and output with these decimals
+abbrev pub options_asked : CommandValue → List (List ℕ) → Option ℕ → RunOptions
+options_asked command inputs decimals = record {
+  display = with_decimals decimals (display_for command.readings command.dated command.asked.display);
   strict = command.asked.strict;
   form = form_asked command.readings command.asked.watermarks inputs;
 }

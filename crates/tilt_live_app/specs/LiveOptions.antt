@@ -37,6 +37,7 @@ live_options =
     ∷ record { word = codes "--decimal"; shape = Text }
     ∷ record { word = codes "--times"; shape = Flag }
     ∷ record { word = codes "--decimals"; shape = Ticks }
+    ∷ record { word = codes "--units"; shape = Flag }
     ∷ []
 
 -- those that only a feed of rows has
@@ -46,9 +47,9 @@ row_options = codes "--lateness" ∷ codes "--idle" ∷ codes "--ahead" ∷ []
 -- those that only a feed of readings has, in addition to the column of its times
 abbrev pub reading_options : List (List ℕ)
 reading_options =
-    codes "--name" ∷ codes "--value" ∷ codes "--tick" ∷ codes "--origin" ∷ codes "--unit" ∷ codes "--scale" ∷ codes "--event"
-    ∷ codes "--max-age" ∷ codes "--closed" ∷ codes "--ties" ∷ codes "--null" ∷ codes "--skip-empty" ∷ codes "--delimiter"
-    ∷ codes "--decimal" ∷ codes "--times" ∷ []
+    codes "--name" ∷ codes "--value" ∷ codes "--tick" ∷ codes "--origin" ∷ codes "--unit" ∷ codes "--event" ∷ codes "--max-age"
+    ∷ codes "--closed" ∷ codes "--ties" ∷ codes "--null" ∷ codes "--skip-empty" ∷ codes "--delimiter" ∷ codes "--decimal"
+    ∷ codes "--times" ∷ []
 
 -- whether one of these options is set
 abbrev pub is_one_set : List (List ℕ) → List SettingValue → Bool
@@ -78,6 +79,14 @@ are_few (Some decimals) = nat_le decimals 19
 abbrev pub decimals_fit : List SettingValue → Bool
 decimals_fit settings = are_few (ticks_of (set_to (codes "--decimals") settings))
 
+-- whether scales are those of readings or of a query in units, whose output has decimals of its own, if it is in units or not
+abbrev pub in_units_fit : Bool → List SettingValue → Bool
+in_units_fit true settings = not (is_set (codes "--decimals") settings)
+in_units_fit false settings = is_set (codes "--time") settings || not (is_set (codes "--scale") settings)
+
+abbrev pub units_fit : List SettingValue → Bool
+units_fit settings = in_units_fit (is_set (codes "--units") settings) settings
+
 -- whether they fit together
 abbrev pub options_fit : List SettingValue → Bool
-options_fit settings = folders_fit settings && forms_fit settings && decimals_fit settings
+options_fit settings = folders_fit settings && forms_fit settings && decimals_fit settings && units_fit settings

@@ -1,9 +1,10 @@
 -- What the options of readings say (our own rule).
-use Rattle.std.specs.Prelude.{◌≡◌, ⊤, ℕ, false, List, [], ◌∷◌, Option, None, Some, Ok, codes, option_map}
+use Rattle.std.specs.Prelude.{◌≡◌, ⊤, ℕ, Bool, true, false, List, [], ◌∷◌, Option, None, Some, Ok, codes, option_map}
 use Rattle.std.specs.List.{list_any}
 use Rattle.std.specs.Str.{bytes_eq}
 use Rattle.tilt_cli.specs.Options.{SettingValue, is_set, set_to, text_of}
-use Rattle.tilt_reading_options.specs.Choice.{choice_said}
+use Rattle.tilt_input_scales.specs.Scales.{ScalesValue}
+use Rattle.tilt_reading_options.specs.Choice.{choice_said, scales_said}
 use Rattle.tilt_reading_options.specs.Texts.{TextsValue}
 use Rattle.tilt_reading_options.specs.Values.{ChoiceValue}
 
@@ -41,6 +42,18 @@ AreSaid None None = ⊤
 AreSaid None (Some choice) = ⊥
 AreSaid (Some texts) None = ⊥
 AreSaid (Some texts) (Some choice) = choice_said texts ≡ Ok choice
+
+-- the text of the scales: of the options of readings, if there are some
+abbrev pub scale_text : Option TextsValue → Option (List ℕ) → Option (List ℕ)
+scale_text None rows = rows
+scale_text (Some texts) rows = texts.scale
+
+-- the scales of the inputs, if the query is in units: those that the text of `--scale` says
+abbrev pub AreInUnits : Bool → Option (List ℕ) → Option ScalesValue → Type 0
+AreInUnits false text None = ⊤
+AreInUnits false text (Some scales) = ⊥
+AreInUnits true text None = ⊥
+AreInUnits true text (Some scales) = scales_said text ≡ Ok scales
 
 -- options of readings that have a text: of columns, of moments, of what readings mean, and of what is written in lines
 abbrev pub column_options : List (List ℕ)

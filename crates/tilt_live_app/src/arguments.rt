@@ -5,14 +5,15 @@ ghost use Rattle.tilt_cli.specs.Command.{texts};
 ghost use Rattle.tilt_cli.specs.declared.fault.WordsFault.TheVariants.{Usage};
 ghost use Rattle.tilt_live_app.specs.Arguments.{CommandValue, IsLiveCommand, asked_options, choice_value, chosen, command_value};
 ghost use Rattle.tilt_live_app.specs.Arguments.{display_asked, number_or, task_asked};
-ghost use Rattle.tilt_live_app.specs.Readings.{reading_texts, text_at};
+ghost use Rattle.tilt_live_app.specs.Readings.{reading_texts, scale_text, text_at};
 
 use crate::asked::Asked;
 use crate::live_options::{options_fit, read_options};
-use crate::reading_texts::{read_readings, take_reading_texts};
+use crate::reading_texts::{read_readings, read_units, take_reading_texts};
 use std::alloc::Global;
 use tilt_cli::{Arguments, WordsFault, is_file};
 use tilt_exactly_once::Plan;
+use tilt_input_scales::Scales;
 use tilt_live_run::Display;
 use tilt_reading_options::{ReadingChoice, ReadingTexts};
 use tilt_row_text::{RowStyle, Times};
@@ -31,12 +32,25 @@ pub(crate) struct LiveCommand<'a> {
     pub(crate) asked: Asked,
     // How readings are written and what they mean, if its feed has readings.
     pub(crate) readings: Option<ReadingChoice>,
+    // The scales of the inputs, if the query is in units.
+    pub(crate) units: Option<Scales>,
     // The file of the state that it goes on from, if it goes on from one.
     pub(crate) resume: Option<String>,
     // The file in which its state is saved, if it is.
     pub(crate) save: Option<String>,
     // The folder into which its feed is served, if it is served into one.
     pub(crate) folder: Option<FolderChoice>,
+}
+
+impl LiveCommand<'_> {
+    ghost use Rattle.std.specs.Prelude.{◌≡◌};
+
+    // The scales of the inputs, if the query is in units.
+    pub(crate) fn units(&self) -> &Option<Scales>
+        ensures { result.now ≡ self.now.units }
+    {
+        &self.units
+    }
 }
 
 // A folder, and what is done with it.
@@ -55,10 +69,11 @@ pub(crate) enum Task {
     Serve(Plan),
 }
 
-// The texts that options have: those of readings if there are some, the files of states, and a folder.
+// The texts that options have: those of readings if there are some, otherwise that of scales; the files of states; and a folder.
 #[derive(Drop)]
 struct Texts {
     readings: Option<ReadingTexts>,
+    scale: Option<String>,
     resume: Option<String>,
     save: Option<String>,
     folder: Option<String>,
@@ -91,7 +106,9 @@ pub(crate) fn read_command(alloc: Global, words: &[String]) -> Result<LiveComman
     let dated = given.has("--times");
     let asked = asked_options(&given);
     let task = task_asked(&given);
+    let in_units = given.has("--units");
     let texts = take_texts(&mut given);
+    let units = read_units(alloc, in_units, scale_in(&texts.readings, &texts.scale))?;
     let readings = read_readings(alloc, texts.readings)?;
     Ok(LiveCommand {
         query,
@@ -99,6 +116,7 @@ pub(crate) fn read_command(alloc: Global, words: &[String]) -> Result<LiveComman
         dated,
         asked,
         readings,
+        units,
         resume: texts.resume,
         save: texts.save,
         folder: choose(texts.folder, task),
@@ -128,6 +146,8 @@ fn number_or(other: u64, number: Option<u64>) -> u64
 // The texts of options. These options are taken out.
 fn take_texts(given: &mut Arguments) -> Texts
     ensures readings { result.readings ≡ reading_texts (arguments_of given.old).settings }
+    ensures scale { scale_text result.readings (option_map (λ text. string_bytes text) result.scale)
+        ≡ text_at (codes "--scale") (arguments_of given.old).settings }
     ensures resume { option_map (λ text. string_bytes text) result.resume
         ≡ text_at (codes "--resume") (arguments_of given.old).settings }
     ensures save { option_map (λ text. string_bytes text) result.save
@@ -136,14 +156,27 @@ fn take_texts(given: &mut Arguments) -> Texts
         ≡ text_at (codes "--folder") (arguments_of given.old).settings }
 {
     let readings = take_reading_texts(given);
+    let scale = given.remove_text("--scale");
     let resume = given.remove_text("--resume");
     let save = given.remove_text("--save");
     let folder = given.remove_text("--folder");
     Texts {
         readings,
+        scale,
         resume,
         save,
         folder,
+    }
+}
+
+// The text of the scales: of the options of readings, if there are some.
+fn scale_in<'t>(readings: &'t Option<ReadingTexts>, rows: &'t Option<String>) -> &'t Option<String>
+    ensures { option_map (λ text. string_bytes text) result.now
+        ≡ scale_text readings.now (option_map (λ text. string_bytes text) rows.now) }
+{
+    match readings {
+        Some(readings) => &readings.scale,
+        None => rows,
     }
 }
 

@@ -64,6 +64,7 @@ impl EndedRun {
             options,
             opening,
             from,
+            ..
         } = job;
         let before = written_before(&from);
         let count = port.count_written();

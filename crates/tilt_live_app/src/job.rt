@@ -15,6 +15,7 @@ ghost use Rattle.tilt_run_state.specs.Spelling.{opening};
 ghost use Rattle.tilt_types.specs.Checked.{core_of};
 
 use crate::arguments::LiveCommand;
+use crate::loaded::{Loaded, load};
 use crate::run_options::run_options;
 use crate::state_file::load_state;
 use crate::unbegun::Unbegun;
@@ -22,7 +23,6 @@ use std::alloc::Global;
 use tilt_compiler::Accepted;
 use tilt_feed_form::FeedForm;
 use tilt_live_run::RunOptions;
-use tilt_load::load_query;
 use tilt_outside::Shelf;
 use tilt_report::Fault;
 use tilt_run_state::{RunState, put_opening};
@@ -33,6 +33,8 @@ use tilt_syntax::Query;
 pub(crate) struct Job {
     pub(crate) query: Query,
     pub(crate) accepted: Accepted,
+    // How many decimals its output has, if it is in units.
+    pub(crate) decimals: Option<u8>,
     pub(crate) options: RunOptions,
     // What the states of the run begin with.
     pub(crate) opening: Vec<u8>,
@@ -48,9 +50,10 @@ pub(crate) fn load_job<'a, S: Shelf>(
 ) -> Result<Job, Unbegun<'a>>
     requires lent { S.lends (command_value command.now).query }
     requires state_lent { (file : List ℕ) → (command_value command.now).resume ≡ Some file → S.lends file }
-    ensures taken { IfOk result (λ job. HasTaken S.tells (S.files shelf.old command.now.query.now) job.query job.accepted.core) }
-    ensures scaled { IfOk result (λ job. IsScaled (command_value command.now).readings job.accepted.core.inputs) }
-    ensures asked { IfOk result (λ job. job.options ≡ options_asked (command_value command.now) job.accepted.core.inputs) }
+    ensures taken { IfOk result (λ job. HasTaken S.tells (S.files shelf.old command.now.query.now) (command_value command.now).units
+        job.query job.accepted.core job.decimals) }
+    ensures scaled { IfOk result (λ job. IsScaled (command_value command.now) job.accepted.core.inputs) }
+    ensures asked { IfOk result (λ job. job.options ≡ options_asked (command_value command.now) job.accepted.core.inputs job.decimals) }
     ensures opening { IfOk result (λ job. job.opening.items ≡ opening job.options.form) }
     ensures goes_on { IfOk result (λ job. GoesOnFrom S.tells (S.files shelf.old) job.query job.options.form
         (command_value command.now).resume job.from) }
@@ -60,18 +63,36 @@ pub(crate) fn load_job<'a, S: Shelf>(
         (command_value command.now) (begin_report why)) }
     ensures rest { OnlyReads S.files S.read_faults S.save_faults S.takes shelf.old shelf.new }
 {
-    let loaded = load_query(alloc, shelf, command.query, !command.plain)?;
+    let loaded = load_query_of(alloc, shelf, command)?;
     let inputs = loaded.accepted.core().inputs();
-    let options = run_options(alloc, command, inputs)?;
+    let options = run_options(alloc, command, inputs, loaded.decimals)?;
     let opening = open_state(alloc, &options.form)?;
     let from = load_from(alloc, shelf, &command.resume, &loaded.query, &options.form)?;
     Ok(Job {
         query: loaded.query,
         accepted: loaded.accepted,
+        decimals: loaded.decimals,
         options,
         opening,
         from,
     })
+}
+
+// The query of a command.
+fn load_query_of<'a, S: Shelf>(
+    alloc: Global,
+    shelf: &mut S,
+    command: &'a LiveCommand<'_>,
+) -> Result<Loaded, Unbegun<'a>>
+    requires lent { S.lends (command_value command.now).query }
+    ensures taken { IfOk result (λ loaded. HasTaken S.tells (S.files shelf.old command.now.query.now) (command_value command.now).units
+        loaded.query loaded.accepted.core loaded.decimals) }
+    ensures accepted { IfOk result (λ loaded. IsAccepted loaded.query × (loaded.accepted.core ≡ core_of loaded.query)) }
+    ensures fault { IfErr result (λ why. IsUnbegun (shelf_change S.tells S.files S.read_faults S.save_faults shelf.old shelf.new)
+        (command_value command.now) (begin_report why)) }
+    ensures rest { OnlyReads S.files S.read_faults S.save_faults S.takes shelf.old shelf.new }
+{
+    load(alloc, shelf, command.query, command.units(), !command.plain)
 }
 
 // What the state of a run over a feed in this form begins with.

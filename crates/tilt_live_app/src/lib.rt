@@ -21,6 +21,7 @@ mod in_folder;
 mod job;
 mod law;
 mod live_options;
+mod loaded;
 mod named_line;
 mod reading_texts;
 mod run_options;

@@ -5,13 +5,13 @@ ghost use Rattle.tilt_cli.specs.Arguments.{AreArguments, ArgumentsValue, argumen
 ghost use Rattle.tilt_cli.specs.Command.{texts};
 ghost use Rattle.tilt_cli.specs.Options.{is_set};
 ghost use Rattle.tilt_cli.specs.declared.fault.WordsFault.TheVariants.{Usage};
-ghost use Rattle.tilt_live_app.specs.LiveOptions.{decimals_fit, folders_fit, forms_fit, live_options, options_fit};
+ghost use Rattle.tilt_live_app.specs.LiveOptions.{decimals_fit, folders_fit, forms_fit, live_options, options_fit, units_fit};
 
 use std::alloc::Global;
 use tilt_cli::{Arguments, OptionRow, Shape, WordsFault};
 
 // All options, each with what it does.
-const LIVE_OPTIONS: [OptionRow; 29] = [
+const LIVE_OPTIONS: [OptionRow; 30] = [
     // prints also what has begun
     OptionRow {
         word: "--begun",
@@ -157,19 +157,23 @@ const LIVE_OPTIONS: [OptionRow; 29] = [
         word: "--decimals",
         shape: Shape::Ticks,
     },
+    // reads the query in units: values and literals are decimals
+    OptionRow {
+        word: "--units",
+        shape: Shape::Flag,
+    },
 ];
 
 // The options that only a feed of rows has.
 const ROW_OPTIONS: [&str; 3] = ["--lateness", "--idle", "--ahead"];
 
 // The options that only a feed of readings has, in addition to the column of its times.
-const READING_OPTIONS: [&str; 15] = [
+const READING_OPTIONS: [&str; 14] = [
     "--name",
     "--value",
     "--tick",
     "--origin",
     "--unit",
-    "--scale",
     "--event",
     "--max-age",
     "--closed",
@@ -194,7 +198,7 @@ pub(crate) fn read_options(alloc: Global, words: &[String]) -> Result<Arguments,
 pub(crate) fn options_fit(given: &Arguments) -> bool
     ensures { result ≡ options_fit (arguments_of given.now).settings }
 {
-    folders_fit(given) && forms_fit(given) && decimals_fit(given)
+    folders_fit(given) && forms_fit(given) && decimals_fit(given) && units_fit(given)
 }
 
 // Whether the options of folders and states fit together. With a folder there are no files of states. If its position is asked for, there
@@ -230,6 +234,17 @@ fn decimals_fit(given: &Arguments) -> bool
     match given.ticks_of("--decimals") {
         Some(decimals) => decimals <= 19,
         None => true,
+    }
+}
+
+// Whether scales are those of readings or of a query in units, whose output has decimals of its own.
+fn units_fit(given: &Arguments) -> bool
+    ensures { result ≡ units_fit (arguments_of given.now).settings }
+{
+    if given.has("--units") {
+        !given.has("--decimals")
+    } else {
+        given.has("--time") || !given.has("--scale")
     }
 }
 

@@ -1,14 +1,19 @@
 // The texts of the options of readings, and what they say.
-ghost use Rattle.std.specs.Prelude.{◌≡◌, Option, MatchResult, codes, option_map, string_bytes};
+ghost use Rattle.std.specs.Prelude.{◌≡◌, None, Option, MatchResult, codes, option_map, string_bytes};
 ghost use Rattle.tilt_cli.specs.Arguments.{arguments_of};
 ghost use Rattle.tilt_cli.specs.declared.fault.WordsFault.TheVariants.{Usage};
-ghost use Rattle.tilt_live_app.specs.Readings.{AreSaid, LeavesAllBut, LeavesFiles, column_options, mark_options, meaning_options};
-ghost use Rattle.tilt_live_app.specs.Readings.{moment_options, reading_texts, text_at};
+ghost use Rattle.tilt_cli.specs.Options.{set_to};
+ghost use Rattle.tilt_input_scales.specs.Scales.{ScalesValue};
+ghost use Rattle.tilt_live_app.specs.Readings.{AreInUnits, AreSaid, LeavesAllBut, LeavesFiles, column_options, mark_options};
+ghost use Rattle.tilt_live_app.specs.Readings.{meaning_options, moment_options, reading_texts, text_at};
 ghost use Rattle.tilt_reading_options.specs.Values.{ChoiceValue};
 
 use std::alloc::Global;
 use tilt_cli::{Arguments, WordsFault};
-use tilt_reading_options::{ChoiceFault, ReadingChoice, ReadingTexts, read_choice};
+use tilt_input_scales::Scales;
+use tilt_reading_options::{
+    ChoiceFault, ReadingChoice, ReadingTexts, read_choice, read_input_scales,
+};
 
 // The columns of names and values.
 #[derive(Drop)]
@@ -61,10 +66,33 @@ pub(crate) fn read_readings(
     }
 }
 
+// The scales of the inputs that a text says, if the query is in units.
+pub(crate) fn read_units(
+    alloc: Global,
+    in_units: bool,
+    text: &Option<String>,
+) -> Result<Option<Scales>, WordsFault>
+    ensures { MatchResult result
+        (λ units. AreInUnits in_units (option_map (λ text. string_bytes text) text.now) units)
+        (λ fault. fault ≡ Usage → (units : Option ScalesValue)
+        → ¬ (AreInUnits in_units (option_map (λ text. string_bytes text) text.now) units)) }
+{
+    if !in_units {
+        return Ok(None);
+    }
+    match read_input_scales(alloc, text) {
+        Ok(scales) => Ok(Some(scales)),
+        Err(ChoiceFault::Bad { .. }) => Err(WordsFault::Usage),
+        Err(ChoiceFault::OutOfMemory) => Err(WordsFault::OutOfMemory),
+    }
+}
+
 // The texts of the options of readings, if there is a column of times. These options are taken out.
 pub(crate) fn take_reading_texts(given: &mut Arguments) -> Option<ReadingTexts>
     ensures texts { result ≡ reading_texts (arguments_of given.old).settings }
     ensures files { LeavesFiles (arguments_of given.old).settings (arguments_of given.new).settings }
+    ensures rows { result ≡ None → set_to (codes "--scale") (arguments_of given.new).settings
+        ≡ set_to (codes "--scale") (arguments_of given.old).settings }
 {
     let event = given.has("--event");
     let skips_empty = given.has("--skip-empty");

@@ -1,36 +1,38 @@
 // The options of the run that a command asks for.
 ghost use Rattle.std.specs.Prelude.{◌≡◌, ◌<◌, ◌^◌, ℕ, List, None, Some, IfErr, IfOk, length};
 ghost use Rattle.tilt_live_app.specs.Arguments.{command_value};
-ghost use Rattle.tilt_live_app.specs.Asked.{IsScaled, IsUnchosen, display_for, options_asked, setup_for};
+ghost use Rattle.tilt_live_app.specs.Asked.{IsScaled, IsUnscaled, display_for, named_scales, options_asked, setup_for, with_decimals};
 ghost use Rattle.tilt_live_app.specs.BeginReport.{begin_report};
-ghost use Rattle.tilt_reading_options.specs.Form.{missing_input};
-ghost use Rattle.tilt_reading_options.specs.Values.{ChoiceValue};
+ghost use Rattle.tilt_reading_options.specs.Scales.{missing_among};
 
 use crate::arguments::LiveCommand;
 use crate::unbegun::Unbegun;
 use std::alloc::Global;
 use tilt_feed_form::{FeedForm, ReadingSetup};
+use tilt_input_scales::Scales;
 use tilt_lexer::Name;
 use tilt_live_run::{Display, RunOptions};
-use tilt_reading_options::{FormFault, ReadingChoice};
-use tilt_report::Fault;
+use tilt_reading_options::{ReadingChoice, check_names};
 use tilt_row_text::{RowStyle, Times};
 
-// The options of the run that a command asks for, on a query with these inputs. A name in its scales that is no input is an error.
+// The options of the run that a command asks for, on a query with these inputs, whose output has these decimals if it is in units. A name
+// in its scales that is no input is an error.
 pub(crate) fn run_options<'a>(
     alloc: Global,
     command: &LiveCommand<'_>,
     inputs: &[Name],
+    decimals: Option<u8>,
 ) -> Result<RunOptions, Unbegun<'a>>
     requires { length inputs.now < 2 ^ 32 }
-    ensures scaled { IfOk result (λ _. IsScaled (command_value command.now).readings inputs.now) }
-    ensures asked { IfOk result (λ options. options ≡ options_asked (command_value command.now) inputs.now) }
-    ensures fault { IfErr result (λ why. (choice : ChoiceValue) × ((command_value command.now).readings ≡ Some choice)
-        × IsUnchosen choice inputs.now (begin_report why)) }
+    ensures scaled { IfOk result (λ _. IsScaled (command_value command.now) inputs.now) }
+    ensures asked { IfOk result (λ options. options ≡ options_asked (command_value command.now) inputs.now decimals) }
+    ensures fault { IfErr result (λ why. IsUnscaled (named_scales (command_value command.now).readings (command_value command.now).units)
+        inputs.now (begin_report why)) }
 {
     let Some(choice) = &command.readings else {
+        check_scales(&command.units, inputs)?;
         return Ok(RunOptions {
-            display: command.asked.display,
+            display: with_decimals(decimals, command.asked.display),
             strict: command.asked.strict,
             form: FeedForm::Rows {
                 options: command.asked.watermarks,
@@ -39,10 +41,41 @@ pub(crate) fn run_options<'a>(
     };
     let setup = make_setup(alloc, choice, inputs)?;
     Ok(RunOptions {
-        display: display_for(choice, command.dated, command.asked.display),
+        display: with_decimals(
+            decimals,
+            display_for(choice, command.dated, command.asked.display),
+        ),
         strict: command.asked.strict,
         form: FeedForm::Readings { setup },
     })
+}
+
+// Fails at the first name of a scale that is no input, if a query of rows is in units.
+fn check_scales<'a>(units: &Option<Scales>, inputs: &[Name]) -> Result<(), Unbegun<'a>>
+    ensures scaled { IfOk result (λ _. missing_among (named_scales None units.now) inputs.now ≡ None) }
+    ensures fault { IfErr result (λ why. IsUnscaled (named_scales None units.now) inputs.now (begin_report why)) }
+{
+    let Some(scales) = units else {
+        return Ok(());
+    };
+    check_names(scales.named(), inputs)?;
+    Ok(())
+}
+
+// The same with the decimals of a query in units, if it is one.
+fn with_decimals(decimals: Option<u8>, display: Display) -> Display
+    ensures { result ≡ with_decimals decimals display }
+{
+    let Some(decimals) = decimals else {
+        return display;
+    };
+    Display {
+        with_begun: display.with_begun,
+        style: RowStyle {
+            times: display.style.times,
+            decimals,
+        },
+    }
 }
 
 // What is written of a feed of readings, and how, if this is asked for.
@@ -71,12 +104,9 @@ fn make_setup<'a>(
 ) -> Result<ReadingSetup, Unbegun<'a>>
     requires { length inputs.now < 2 ^ 32 }
     ensures setup { IfOk result (λ setup. setup ≡ setup_for choice.now inputs.now) }
-    ensures scaled { IfOk result (λ _. missing_input choice.now inputs.now ≡ None) }
-    ensures fault { IfErr result (λ why. IsUnchosen choice.now inputs.now (begin_report why)) }
+    ensures scaled { IfOk result (λ _. missing_among choice.now.scales.named inputs.now ≡ None) }
+    ensures fault { IfErr result (λ why. IsUnscaled choice.now.scales.named inputs.now (begin_report why)) }
 {
-    match choice.form(alloc, inputs) {
-        Ok((form, options)) => Ok(ReadingSetup::new(form, options)),
-        Err(FormFault::NoInput { name }) => Err(Unbegun::NoInput(name)),
-        Err(FormFault::OutOfMemory) => Err(Unbegun::Shared(Fault::OutOfMemory)),
-    }
+    let (form, options) = choice.form(alloc, inputs)?;
+    Ok(ReadingSetup::new(form, options))
 }

@@ -7,13 +7,17 @@ use crate::folder_end::report_fault;
 use crate::named_line::put_line;
 use tilt_lexer::Name;
 use tilt_outside::Sink;
+use tilt_reading_options::FormFault;
 use tilt_report::Fault;
+use tilt_unit_load::UnitLoadFault;
 
 // Why a feed isn't begun.
 #[derive(Drop)]
 pub(crate) enum Unbegun<'a> {
     // By a fault of all commands.
     Shared(Fault<'a>),
+    // By a fault of a query in units.
+    InUnits(UnitLoadFault<'a>),
     // The option `--scale` has this name, which is no input of the query.
     NoInput(Name),
 }
@@ -29,6 +33,31 @@ impl<'a> From<Fault<'a>> for Unbegun<'a> {
     }
 }
 
+impl<'a> From<UnitLoadFault<'a>> for Unbegun<'a> {
+    ghost use Rattle.std.specs.Prelude.{◌≡◌};
+    ghost use Rattle.tilt_live_app.specs.declared.unbegun.Unbegun.TheVariants.{InUnits};
+
+    ghost from_gives = { λ fault why. why ≡ InUnits fault };
+
+    fn from(fault: UnitLoadFault<'a>) -> Self {
+        Unbegun::InUnits(fault)
+    }
+}
+
+impl From<FormFault> for Unbegun<'_> {
+    ghost use Rattle.std.specs.Prelude.{◌≡◌};
+    ghost use Rattle.tilt_live_app.specs.BeginReport.{begin_report, report_of_form};
+
+    ghost from_gives = { λ fault why. begin_report why ≡ report_of_form fault };
+
+    fn from(fault: FormFault) -> Self {
+        match fault {
+            FormFault::NoInput { name } => Unbegun::NoInput(name),
+            FormFault::OutOfMemory => Unbegun::Shared(Fault::OutOfMemory),
+        }
+    }
+}
+
 // Reports why a feed isn't begun, and returns the status.
 pub(crate) fn report_unbegun<E: Sink>(err: &mut E, why: &Unbegun<'_>) -> u8
     requires { (n : ℕ) → E.takes err.old n }
@@ -37,6 +66,11 @@ pub(crate) fn report_unbegun<E: Sink>(err: &mut E, why: &Unbegun<'_>) -> u8
 {
     match why {
         Unbegun::Shared(fault) => report_fault(err, fault),
+        Unbegun::InUnits(fault) => {
+            // A fault of the sink changes nothing.
+            let _ = fault.put(err);
+            fault.status()
+        }
         Unbegun::NoInput(name) => {
             // A fault of the sink changes nothing.
             let _ = put_line(err, b"tilt: 66 no input ", name.bytes());

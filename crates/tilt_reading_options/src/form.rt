@@ -18,8 +18,8 @@ use tilt_input_scales::{InputScale, Scales};
 use tilt_lexer::Name;
 use tilt_reading_lines::{Source, Titles};
 
-// Fails at the first name of a scale that is no input.
-pub(crate) fn check_names(named: &[InputScale], inputs: &[Name]) -> Result<(), FormFault>
+/// Fails at the first name of a scale that is no input: `NoInput` has it. `OutOfMemory` comes if memory runs out, and for no other reason.
+pub fn check_names(named: &[InputScale], inputs: &[Name]) -> Result<(), FormFault>
     ensures { IsMissing result (missing_among named.now inputs.now) }
 {
     for at in 0..named.len() {

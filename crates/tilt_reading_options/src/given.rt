@@ -86,8 +86,9 @@ pub(crate) fn read_moments(text: &Option<String>) -> Result<Moments, ReadingOpti
     }
 }
 
-// The scales of the inputs.
-pub(crate) fn read_scale(alloc: Global, text: &Option<String>) -> Result<Scales, ChoiceFault>
+/// The scales of inputs that the text of `--scale` says: one number for all inputs, or one for each name, as in `a=10,b=100`. Without a
+/// text each is 1. `Bad` comes if the text says none. `OutOfMemory` comes if memory runs out, and for no other reason.
+pub fn read_input_scales(alloc: Global, text: &Option<String>) -> Result<Scales, ChoiceFault>
     ensures { Says (λ scales. scales) result (scales_said (given text.now)) }
 {
     match text {

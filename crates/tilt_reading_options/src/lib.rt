@@ -21,5 +21,7 @@ mod words;
 
 pub use choice::{ReadingChoice, read_choice};
 pub use fault::{ChoiceFault, FormFault};
+pub use form::check_names;
+pub use given::read_input_scales;
 pub use reading_option::ReadingOption;
 pub use texts::ReadingTexts;

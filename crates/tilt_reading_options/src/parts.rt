@@ -8,8 +8,8 @@ ghost use Rattle.tilt_reading_lines.specs.Titles.{titles_of};
 
 use crate::fault::ChoiceFault;
 use crate::given::{
-    make_titles, read_closed, read_convention, read_delimiter, read_mark, read_moments,
-    read_origin, read_scale, read_tick, read_ties,
+    make_titles, read_closed, read_convention, read_delimiter, read_input_scales, read_mark,
+    read_moments, read_origin, read_tick, read_ties,
 };
 use crate::reading_option::ReadingOption;
 use crate::texts::ReadingTexts;
@@ -68,7 +68,7 @@ pub(crate) fn read_times(texts: &ReadingTexts) -> Result<Times, ReadingOption>
 pub(crate) fn read_scales_of(alloc: Global, texts: &ReadingTexts) -> Result<Scales, ChoiceFault>
     ensures { Says (λ scales. scales) result (scales_said texts.now.scale) }
 {
-    read_scale(alloc, &texts.scale)
+    read_input_scales(alloc, &texts.scale)
 }
 
 // What the options of the meaning say, with ticks of a length.

@@ -17,6 +17,7 @@ returns-in-Err-serve-clause-is g c =
     (record {
       query = job.query;
       core = job.accepted.core;
+      decimals = job.decimals;
       taken = c.in-Ok.ensures.taken;
       scaled = c.in-Ok.ensures.scaled;
       options = job.options;
@@ -33,6 +34,7 @@ returns-in-None-clause-is g c =
     (record {
       query = job.query;
       core = job.accepted.core;
+      decimals = job.decimals;
       taken = c.in-Ok.ensures.taken;
       scaled = c.in-Ok.ensures.scaled;
       options = job.options;
@@ -61,6 +63,7 @@ returns-in-Some-clause-is g c =
     (record {
       query = job.query;
       core = job.accepted.core;
+      decimals = job.decimals;
       taken = c.in-Ok.ensures.taken;
       scaled = c.in-Ok.ensures.scaled;
       options = job.options;

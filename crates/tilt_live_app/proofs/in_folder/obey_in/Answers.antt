@@ -18,6 +18,7 @@ returns-in-Err-enter-clause-is g c =
     (record {
       query = job.query;
       core = job.accepted.core;
+      decimals = job.decimals;
       taken = c.in-Ok.ensures.taken;
       scaled = c.in-Ok.ensures.scaled;
       options = job.options;
@@ -35,6 +36,7 @@ returns-in-Position-clause-is g c =
     (record {
       query = job.query;
       core = job.accepted.core;
+      decimals = job.decimals;
       taken = c.in-Ok.ensures.taken;
       scaled = c.in-Ok.ensures.scaled;
       options = job.options;
@@ -52,6 +54,7 @@ returns-clause-is g c =
     (record {
       query = job.query;
       core = job.accepted.core;
+      decimals = job.decimals;
       taken = c.in-Ok.ensures.taken;
       scaled = c.in-Ok.ensures.scaled;
       options = job.options;

@@ -70,6 +70,9 @@ returns-clause-files c =
       folder = all (codes "--folder") refl refl refl refl refl;
     }
 
+pub returns-in_default-clause-rows : goal.returns-in_default-clause-rows
+returns-in_default-clause-rows c = λ none. c.in_default.ensures.others (codes "--scale") refl
+
 pub returns-in_default-clause-files : goal.returns-in_default-clause-files
 returns-in_default-clause-files c = record {
   resume = c.in_default.ensures.others (codes "--resume") refl;

@@ -1,4 +1,4 @@
-use Rattle.std.proofs.Common.{◌≡◌, ℕ, List, subst, ◌∙◌, sym}
+use Rattle.std.proofs.Common.{◌≡◌, ℕ, List, subst, ◌∙◌}
 use Rattle.std.proofs.lemmas.Result.{err_from_is_err_and}
 use Rattle.tilt_live_app.specs.StateFile.{RefusesState, long, of_none, of_other_options, of_other_query}
 use Rattle.tilt_load.specs.Load.{IsTooLong}
