@@ -1,0 +1,4 @@
+pub mod Addresses
+pub mod Hearing
+pub mod Lines
+pub mod Owning

@@ -1,0 +1,5 @@
+pub mod Alongs
+pub mod Apart
+pub mod More
+pub mod Outcomes
+pub mod Places

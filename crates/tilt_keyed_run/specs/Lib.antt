@@ -1,0 +1,3 @@
+pub mod Halts
+pub mod Output
+pub mod Runs
