@@ -22,6 +22,7 @@ from typing import Any, Callable, Iterator
 import pytest
 from conftest import PROGRAM, PYTHON, TOP, run_program
 from queries import Draw
+from workers import Cluster, before, wrapped
 
 from tilt_data import Query, Refused, engine, parts, ranges, scale, tasks
 from tilt_data.errors import TiltError
@@ -34,23 +35,7 @@ from tilt_data.tokens import tokens_of
 
 HEADER = "start,end,value\n"
 FAR = 4 * 10**18
-DASK = "python3-distributed"
 QUOTED = '"start","end","value"\n'
-
-
-@pytest.fixture
-def here(tilt, tmp_path, monkeypatch):
-    """An empty folder and the program; the workers find both."""
-    monkeypatch.chdir(tmp_path)
-    monkeypatch.setenv("TILT", tilt)
-    # No test stops the machine: what is brought to the disk here would only take time.
-    monkeypatch.setattr(os, "fsync", lambda _: None)
-    return tmp_path
-
-
-@pytest.fixture
-def dask():
-    return pytest.importorskip("distributed", reason=f"{DASK} is missing")
 
 
 def text_of(rows) -> str:
@@ -822,122 +807,6 @@ def test_what_breaks_off_leaves_no_file(tmp_path):
 # On threads, and on a cluster of two workers on loopback
 
 
-def wrapped(program: pathlib.Path) -> pathlib.Path:
-    """A script that calls the program, after what the text `before` says."""
-    program.write_text(f'#!/bin/sh\n[ -e "$0.before" ] && . "$0.before"\nexec {PROGRAM} "$@"\n')
-    program.chmod(0o755)
-    return program
-
-
-def before(program: pathlib.Path, text: str) -> None:
-    program.with_name(f"{program.name}.before").write_text(text)
-
-
-class Cluster:
-    """A scheduler and two workers, as other machines would have them, which are started again if they are killed; and the program that they
-    call, which does first what the text `before` says. A folder with Dask's configuration makes it a cluster with TLS."""
-
-    def __init__(self, folder: pathlib.Path, configuration: pathlib.Path | None = None) -> None:
-        import distributed
-
-        self.folder = folder
-        self.environment = {} if configuration is None else {"DASK_CONFIG": str(configuration)}
-        security = (
-            None
-            if configuration is None
-            else distributed.Security(
-                require_encryption=True,
-                **{
-                    f"tls_{name}": str(configuration / file)
-                    for name, file in (("ca_file", "ca.pem"), ("client_cert", "cert.pem"), ("client_key", "key.pem"))
-                },
-            )
-        )
-        self.program = wrapped(folder / "program")
-        self.begun: list[subprocess.Popen[bytes]] = []
-        file = folder / "scheduler.json"
-        protocol = [] if configuration is None else ["--protocol", "tls"]
-        self.begin("dask_scheduler", "--port", "0", "--scheduler-file", str(file), *protocol)
-        self.begin("dask_worker", "--nworkers", "2", "--nthreads", "1", "--scheduler-file", str(file), "--local-directory", str(folder))
-        deadline = time.monotonic() + 60
-        while not (file.exists() and file.read_text().endswith("}")) and time.monotonic() < deadline:
-            time.sleep(0.05)
-        self.address = json.loads(file.read_text())["address"]
-        with distributed.Client(self.address, timeout="60s", security=security) as client:
-            client.wait_for_workers(2, timeout=60)
-
-    def begin(self, module: str, *words: str) -> None:
-        environment = {**os.environ, "PYTHONPATH": str(PYTHON), "TILT": str(self.program), **self.environment}
-        words = "-m", f"distributed.cli.{module}", "--host", "127.0.0.1", "--no-dashboard", "--dashboard-address", "127.0.0.1:0", *words
-        self.begun.append(
-            subprocess.Popen(
-                [sys.executable, *words],
-                cwd=self.folder,
-                env=environment,
-                stdout=subprocess.DEVNULL,
-                stderr=subprocess.DEVNULL,
-                start_new_session=True,
-            )
-        )
-
-    def before(self, text: str) -> None:
-        before(self.program, text)
-
-    def workers(self) -> list[Any]:
-        import psutil
-
-        found = []
-        for process in psutil.Process(self.begun[1].pid).children(recursive=True):
-            try:
-                found += [process] if any("spawn_main" in word for word in process.cmdline()) else []
-            except psutil.Error:
-                pass
-        return found
-
-    def end(self) -> None:
-        for process in reversed(self.begun):
-            # Each has a group of its own, with the workers that it began.
-            os.killpg(process.pid, signal.SIGKILL)
-            process.wait()
-
-
-@pytest.fixture(scope="module")
-def of_module(tilt, tmp_path_factory) -> Iterator[Cluster]:
-    pytest.importorskip("distributed", reason=f"{DASK} is missing")
-    cluster = Cluster(tmp_path_factory.mktemp("cluster"))
-    yield cluster
-    cluster.end()
-
-
-@pytest.fixture
-def cluster(of_module, here, monkeypatch) -> Cluster:
-    """The cluster, whose program does nothing before."""
-    of_module.before("")
-    monkeypatch.setenv("TILT", str(of_module.program))
-    return of_module
-
-
-class Engine:
-    """What the parts of a test run on: two threads or the cluster, as options of the API and of the command, and the program there."""
-
-    def __init__(self, program: pathlib.Path, **options: Any) -> None:
-        self.program, self.options = program, options
-        self.words = [word for name, value in options.items() for word in (f"--{name}", str(value))]
-
-    def before(self, text: str) -> None:
-        before(self.program, text)
-
-
-@pytest.fixture(params=["threads", "cluster"])
-def either(request, here, monkeypatch) -> Engine:
-    if request.param == "cluster":
-        cluster = request.getfixturevalue("cluster")
-        return Engine(cluster.program, scheduler=cluster.address)
-    (here / "bin").mkdir()
-    monkeypatch.setenv("TILT", str(wrapped(here / "bin" / "program")))
-    return Engine(here / "bin" / "program", workers=2)
-
-
 FLEET = (
     "input x; input limit; let a = avg(x[t-20:t]); let above = ifnull(a > limit, false);\n"
     "emit a - limit when any(above[t-30:t+3]) over (0, {end}];\n"
@@ -1581,3 +1450,5 @@ def test_a_cluster_with_certificates(with_tls, here):
     assert not os.path.exists("out/output.csv")
     done = call(with_tls.address, **with_tls.environment)
     assert done.returncode == 0 and pathlib.Path("out/output.csv").read_text() == HEADER + "0,5,7\n", done.stderr
+    found = re.search(r"took (\S+) s\n.*: Dask took (\S+) s to start, the parts (\S+) s, and Dask (\S+) s to end\n", done.stderr)
+    assert found and abs(float(found[1]) - sum(map(float, found.groups()[1:]))) < 0.25 and float(found[2]) > 0, done.stderr

@@ -3,10 +3,12 @@
 Threads need neither Dask nor a network: each calls the program as a process of its own. Dask is imported only for a cluster."""
 from __future__ import annotations
 
+import argparse
 import collections
 import concurrent.futures
 import contextlib
 import importlib
+import logging
 import os
 import time
 from typing import Any, Callable, Iterator
@@ -22,6 +24,22 @@ MISSING = (
     "{0} isn't installed, which --scheduler needs: `apt-get install python3-dask python3-distributed`, or "
     "`pip install 'dask[distributed]'`"
 )
+
+
+def check(workers: int | None, retries: int) -> None:
+    """Raises a Refused for numbers that no engine takes."""
+    for name, least, value in (("retries", 0, retries), ("workers", 1, 1 if workers is None else workers)):
+        if value < least:
+            raise Refused(f"{name}: {least} or more was expected")
+
+
+def prepare(words: argparse.Namespace) -> None:
+    """What a command does first whose options say where its tasks run."""
+    if words.scheduler is not None and words.workers is not None:
+        raise Refused("--workers is for this machine: the scheduler has its own workers")
+    check(words.workers, words.retries)
+    # What Dask leaves open as its client goes isn't for the reader of a command.
+    logging.getLogger("asyncio").setLevel(logging.CRITICAL)
 
 
 @contextlib.contextmanager
@@ -45,10 +63,15 @@ class Engine:
     def __init__(self, workers: int, retries: int) -> None:
         self.most, self.retries = workers, retries
         self.begun: dict[Any, tuple[str, Function, Any, Taking]] = {}
-        self.seconds = 0.0
+        # Those of all calls, and those that it took to start and to end the engine itself.
+        self.seconds = self.start_seconds = self.end_seconds = 0.0
         self.failures: collections.Counter[str] = collections.Counter()
         self.pool = concurrent.futures.ThreadPoolExecutor(max(1, workers))
         self.processes = Processes()
+
+    def threads(self) -> int:
+        """How many calls can run at a time now."""
+        return self.most
 
     def submit(self, function: Function, argument: Any) -> Any:
         return self.pool.submit(function, argument, self.processes)
@@ -105,16 +128,22 @@ class Cluster(Engine):
 
     def threads(self) -> int:
         """How many threads all workers have now. The largest number that was seen is kept."""
+        self.connect()
         count: int = sum(self.client.nthreads().values())
         self.most = max(self.most, count)
         return count
 
-    def submit(self, function: Function, argument: Any) -> Any:
+    def connect(self) -> None:
         if self.client is None:
+            begun = time.monotonic()
             self.client = client_of(self.distributed, self.scheduler)
             self.waiting = self.distributed.as_completed()
             if not self.threads():
                 note(f"{self.scheduler} has no workers yet: waiting")
+            self.start_seconds += time.monotonic() - begun
+
+    def submit(self, function: Function, argument: Any) -> Any:
+        self.connect()
         future = self.client.submit(function, argument, pure=False)
         self.waiting.add(future)
         return future
@@ -141,7 +170,9 @@ class Cluster(Engine):
 
     def close(self) -> None:
         if self.client is not None:
+            begun = time.monotonic()
             self.client.close()
+            self.end_seconds = time.monotonic() - begun
 
 
 def imported() -> Any:

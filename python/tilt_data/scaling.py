@@ -7,7 +7,6 @@ import contextlib
 import dataclasses
 import glob
 import json
-import logging
 import math
 import os
 import pathlib
@@ -67,7 +66,8 @@ def add(commands: Any) -> None:
 class Scaled:
     """What a call did: the output of each key, `output` if there are none; how many parts there are, how many of them were made now, and
     how many bytes of series the program got for them; the largest number of workers; the seconds of the whole call, of all its tasks, and
-    of the program in them; how often a task was started again; and notes on the cuts, the rows and the files."""
+    of the program in them, and those in which Dask started and ended; how often a task was started again; and notes on the cuts, the rows
+    and the files."""
 
     outputs: dict[str, str] = dataclasses.field(default_factory=dict)
     parts: int = 0
@@ -77,6 +77,8 @@ class Scaled:
     seconds: float = 0.0
     task_seconds: float = 0.0
     program_seconds: float = 0.0
+    start_seconds: float = 0.0
+    end_seconds: float = 0.0
     again: int = 0
     notes: list[str] = dataclasses.field(default_factory=list)
 
@@ -84,9 +86,12 @@ class Scaled:
         yield from self.notes
         kept = f", of which {self.parts - self.made} were there" if self.made < self.parts else ""
         yield f"{self.parts} parts{kept}; {self.bytes / 1e6:.1f} MB of series read; the call took {self.seconds:.1f} s"
+        run = self.seconds - self.start_seconds - self.end_seconds
+        if self.start_seconds:
+            yield f"Dask took {self.start_seconds:.1f} s to start, the parts {run:.1f} s, and Dask {self.end_seconds:.1f} s to end"
         if self.made and self.workers:
             # How the workers spent the time of the call.
-            time = self.workers * self.seconds
+            time = self.workers * run
             program, files = self.program_seconds / time, (self.task_seconds - self.program_seconds) / time
             rest = max(0, 1 - program - files)
             yield f"of the workers' time: the program {program:.0%}, reading and writing {files:.0%}, waiting {rest:.0%}"
@@ -464,11 +469,12 @@ def scale(
     """Runs a query over many files, several parts at a time, as `tilt-data scale` does with the same options. The files of an input are a
     name or several, with {key}, * and ? as there. Without a scheduler the parts run on threads of this process, which call the program."""
     begun = time.monotonic()
-    for name, least, value in (("part-rows", 1, part_rows), ("retries", 0, retries), ("workers", 1, 1 if workers is None else workers)):
-        if value < least:
-            raise Refused(f"{name}: {least} or more was expected")
+    if part_rows < 1:
+        raise Refused("part-rows: 1 or more was expected")
+    engine.check(workers, retries)
     if scheduler is not None:
         engine.imported()
+    start_seconds = time.monotonic() - begun if scheduler is not None else 0.0
     listed = {name: [files] if isinstance(files, (str, os.PathLike)) else files for name, files in inputs.items()}
     named = {name: [os.fspath(one) for one in files] for name, files in listed.items()}
     plan = Plan(query if isinstance(query, Query) else Query(query), named, os.fspath(out))
@@ -481,14 +487,12 @@ def scale(
         with engine.opened(scheduler, workers, retries) as its:
             scaled = Run(plan, its, Listing(plan.out), progress).carry_out(part_rows)
     scaled.seconds = time.monotonic() - begun
+    scaled.start_seconds, scaled.end_seconds = start_seconds + its.start_seconds, its.end_seconds
     return scaled
 
 
 def main(words: argparse.Namespace) -> int:
-    if words.scheduler is not None and words.workers is not None:
-        raise Refused("--workers is for this machine: the scheduler has its own workers")
-    # What Dask leaves open as its client goes isn't for the reader of a command.
-    logging.getLogger("asyncio").setLevel(logging.CRITICAL)
+    engine.prepare(words)
     options: Any = {name: getattr(words, name) for name in ("scheduler", "workers", "part_rows", "retries")}
     for line in scale(pathlib.Path(words.query), bound(words.binds), words.out, progress=True, **options).told():
         note(line)

@@ -120,7 +120,7 @@ def make_parts(batch: Batch, processes: Processes) -> Made:
 
 def made_together(batch: Batch, processes: Processes) -> Made:
     """Runs the program for each part. All outputs are brought to the disk together, and then take their names."""
-    check_program(batch)
+    check_program(batch.program)
     made: list[Made] = []
     with scratch() as folder, Together() as together:
         query = os.path.join(folder, "query.tilt")
@@ -138,10 +138,10 @@ def made_together(batch: Batch, processes: Processes) -> Made:
     return Made(parts=tuple(made))
 
 
-def check_program(batch: Batch) -> None:
+def check_program(digest: str, command: str = "tilt") -> None:
     """Raises a Refused if the program here isn't that of the call."""
-    path = program()
-    if not os.path.exists(path) or program_digest(path) != batch.program:
+    path = program(command)
+    if not os.path.exists(path) or program_digest(path) != digest:
         raise Refused(f"{path} on {os.uname().nodename} isn't the program of the call")
 
 

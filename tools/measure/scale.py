@@ -2,9 +2,13 @@
 """Measures what `tilt-data scale` costs beside `tilt run` for one key after another: `tools/measure/scale.py [KEYS ROWS WORKERS] ..`.
 
 It writes a series of so many rows for each key and runs a query over all by both, three times. It compares the outputs byte by byte. For
-each it prints the least processor seconds of the three runs, the least seconds on the clock, and the load."""
+each it prints the least processor seconds of the three runs, the least seconds on the clock, and the load.
+
+`tools/measure/scale.py --table [KEYS ROWS] ..` runs each once: `tilt run` for one key after another, and for as many keys at a time as
+there are processors, if there are so many; `scale` with one worker, and with one for each processor. It prints a table."""
 from __future__ import annotations
 
+import concurrent.futures
 import filecmp
 import os
 import random
@@ -56,21 +60,65 @@ def scaled(query: str, data: str, out: str, workers: int) -> Seconds:
     return measured(words, None)
 
 
+def at_once(query: str, data: str, workers: int) -> float:
+    """The seconds of so many processes at a time, which is how fast any use of this machine's processors can be."""
+    words = [[program(), "run", query, f"x={os.path.join(data, name)}"] for name in sorted(os.listdir(data))]
+    begun = time.monotonic()
+    with concurrent.futures.ThreadPoolExecutor(workers) as pool:
+        list(pool.map(lambda its: subprocess.run(its, stdout=subprocess.DEVNULL, check=True), words))
+    return time.monotonic() - begun
+
+
+def check_same(wanted: str, out: str) -> None:
+    if not all(filecmp.cmp(os.path.join(wanted, name), os.path.join(out, name), shallow=False) for name in os.listdir(wanted)):
+        sys.exit("the outputs differ")
+
+
+def row_of_table(folder: str, keys: int, rows: int) -> str:
+    data, query, wanted, out, more = (os.path.join(folder, name) for name in ("data", "query", "wanted", "out", "more"))
+    os.mkdir(data)
+    # A few keys have rows of their own, and the others have copies of these.
+    write_series(data, min(keys, 4), rows)
+    for key in range(4, keys):
+        shutil.copyfile(os.path.join(data, f"k{key % 4:06d}.csv"), os.path.join(data, f"k{key:06d}.csv"))
+    write_query(query, rows)
+    workers = os.cpu_count() or 1
+    before, run = os.getloadavg()[0], one_after_another(query, data, wanted)
+    once = f"{run[1] / at_once(query, data, workers):.2f}" if keys >= workers else ""
+    alone, several = scaled(query, data, out, 1), scaled(query, data, more, workers)
+    check_same(wanted, out)
+    check_same(wanted, more)
+    ratios = f"{alone[0]:.1f} s, {alone[0] / run[0]:.2f} times | {several[1]:.1f} s, {run[1] / several[1]:.2f} times as fast | {once}"
+    return f"| {keys} | {rows:,} | {run[0]:.1f} s, {run[1]:.1f} s | {ratios} | {before:.1f} to {os.getloadavg()[0]:.1f} |"
+
+
+def print_table(numbers: list[int]) -> None:
+    count = os.cpu_count()
+    columns = ["keys", "rows of each", "`tilt run`: processor, clock", "one worker: processor", f"{count} workers: clock"]
+    print(f"| {' | '.join([*columns, f'{count} of `tilt run` at once: times as fast', 'load'])} |\n{'|---' * 7}|", flush=True)
+    for keys, rows in zip(numbers[::2], numbers[1::2]):
+        with tempfile.TemporaryDirectory() as folder:
+            print(row_of_table(folder, keys, rows), flush=True)
+
+
+def write_query(query: str, rows: int) -> None:
+    period = 600 if rows > 600 else 1
+    with open(query, "w", encoding="ascii") as file:
+        file.write(QUERY.format(back=10 * period, end=rows // period * period, period=period))
+
+
 def measure(folder: str, keys: int, rows: int, workers: int) -> None:
     data, query = os.path.join(folder, "data"), os.path.join(folder, "query")
     os.mkdir(data)
     write_series(data, keys, rows)
-    period = 600 if rows > 600 else 1
-    with open(query, "w", encoding="ascii") as file:
-        file.write(QUERY.format(back=10 * period, end=rows // period * period, period=period))
+    write_query(query, rows)
     runs: list[Seconds] = []
     scales: list[Seconds] = []
     for number in range(TIMES):
         wanted, out = os.path.join(folder, f"wanted{number}"), os.path.join(folder, f"out{number}")
         runs.append(one_after_another(query, data, wanted))
         scales.append(scaled(query, data, out, workers))
-        if not all(filecmp.cmp(os.path.join(wanted, name), os.path.join(out, name), shallow=False) for name in os.listdir(wanted)):
-            sys.exit("the outputs differ")
+        check_same(wanted, out)
         shutil.rmtree(wanted)
         shutil.rmtree(out)
     run, scale = (min(one[0] for one in some) for some in (runs, scales))
@@ -84,6 +132,10 @@ def measure(folder: str, keys: int, rows: int, workers: int) -> None:
 
 def main(words: list[str]) -> int:
     os.environ["PYTHONPATH"] = os.path.join(TOP, "python")
+    if words[:1] == ["--table"]:
+        # A series of 40 million rows is about the longest that one run takes.
+        print_table([int(word) for word in words[1:]] or [40, 2_600_000, 1, 40_000_000])
+        return 0
     numbers = [int(word) for word in words] or [20, 200_000, 1, 2000, 5, 1, 4, 2_600_000, 1]
     for at in range(0, len(numbers), 3):
         keys, rows, workers = numbers[at : at + 3]
