@@ -14,17 +14,19 @@ import pytest
 
 PYTHON = pathlib.Path(__file__).resolve().parent.parent
 TOP = PYTHON.parent
-PROGRAM = pathlib.Path(os.environ.get("TILT", TOP / "crates" / "tilt" / "out" / "tilt"))
 sys.path[:0] = [str(PYTHON), str(TOP / "tools")]
 
 from shared.browser import Browser, browser_path
 from tilt_data.cli import main
+from workers import LIVE, PROGRAM, Cluster, Engine, wrapped
+
+DASK = "python3-distributed"
 
 
 def pytest_collection_modifyitems(items: list[pytest.Item]) -> None:
     """A test that is handed the program, or a browser, has the mark `program`."""
     for item in items:
-        if {"tilt", "browser"} & set(getattr(item, "fixturenames", ())):
+        if {"tilt", "live", "browser"} & set(getattr(item, "fixturenames", ())):
             item.add_marker("program")
 
 
@@ -34,6 +36,14 @@ def tilt() -> str:
     if not os.access(PROGRAM, os.X_OK):
         pytest.skip("the program isn't built")
     return str(PROGRAM)
+
+
+@pytest.fixture(scope="session")
+def live() -> str:
+    """The program `tilt-live`, as `tilt`."""
+    if not os.access(LIVE, os.X_OK):
+        pytest.skip("the program isn't built")
+    return str(LIVE)
 
 
 @pytest.fixture(scope="session")
@@ -58,6 +68,48 @@ def told(
         return status, out, err
 
     return call
+
+
+@pytest.fixture
+def here(tilt, tmp_path, monkeypatch):
+    """An empty folder and the program; the workers find both."""
+    monkeypatch.chdir(tmp_path)
+    monkeypatch.setenv("TILT", tilt)
+    # No test stops the machine: what is brought to the disk here would only take time.
+    monkeypatch.setattr(os, "fsync", lambda _: None)
+    return tmp_path
+
+
+@pytest.fixture
+def dask():
+    return pytest.importorskip("distributed", reason=f"{DASK} is missing")
+
+
+@pytest.fixture(scope="module")
+def of_module(request, tilt, tmp_path_factory) -> Iterator[Cluster]:
+    """A cluster of as many workers as the module of the tests has in WORKERS, or of two."""
+    pytest.importorskip("distributed", reason=f"{DASK} is missing")
+    cluster = Cluster(tmp_path_factory.mktemp("cluster"), workers=getattr(request.module, "WORKERS", 2))
+    yield cluster
+    cluster.end()
+
+
+@pytest.fixture
+def cluster(of_module, here, monkeypatch) -> Cluster:
+    """The cluster, whose program does nothing before."""
+    of_module.before("")
+    monkeypatch.setenv("TILT", str(of_module.program))
+    return of_module
+
+
+@pytest.fixture(params=["threads", "cluster"])
+def either(request, here, monkeypatch) -> Engine:
+    if request.param == "cluster":
+        cluster = request.getfixturevalue("cluster")
+        return Engine(cluster.program, cluster, scheduler=cluster.address)
+    (here / "bin").mkdir()
+    monkeypatch.setenv("TILT", str(wrapped(here / "bin" / "program")))
+    return Engine(here / "bin" / "program", None, workers=getattr(request.module, "WORKERS", 2))
 
 
 def forked(words: list[str], env: dict[str, str], **how: Any) -> subprocess.Popen[bytes]:

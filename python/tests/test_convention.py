@@ -36,7 +36,7 @@ OPTIONS = [
 ]
 
 
-def convention_of(*words: str, lasting: bool = True) -> TextConvention:
+def convention_of(*words: str, lasting: bool = False) -> TextConvention:
     parser = argparse.ArgumentParser()
     TextConvention.add_to(parser, lasting)
     return TextConvention.of(parser.parse_args(words))
@@ -51,39 +51,11 @@ def like(tmp_path: pathlib.Path, monkeypatch: pytest.MonkeyPatch) -> None:
 @pytest.mark.parametrize("words", OPTIONS)
 def test_all_commands_read_the_same_convention(words):
     series = TextConvention.of(parser_of().parse_args(["series", "file", *words]))
-    assert series == TextConvention.of(parser_of().parse_args(["follow", "query", "--state", "s", *words])) == convention_of(*words)
-
-
-@pytest.mark.parametrize("words", OPTIONS)
-def test_the_arguments_of_a_convention_give_it_again(words):
-    given = convention_of(*words).arguments()
-    again = [
-        word
-        for option, value in given.items()
-        if value not in (None, False)
-        for word in ([option] if value is True else f"{option}={value}".split())
-    ]
-    assert convention_of(*again).arguments() == given
-
-
-def test_the_arguments_have_one_spelling_each():
-    given = convention_of(*OPTIONS[2], *OPTIONS[1]).arguments()
-    assert given == {
-        "--tick": "1min",
-        "--origin": "2026-02-28T23:00:00Z",
-        "--closed": "left",
-        "--scale": "10 --scale x=100",
-        "--zone": "Europe/Zurich",
-        "--unit": "s",
-        "--max-age": "1min --max-age x=5min",
-        "--until": "2026-03-01T23:00:00Z",
-        "--ties": "refuse",
-        "--null": None,
-        "--event": False,
-        "--skip-empty": False,
-    }
-    given = convention_of(*OPTIONS[4]).arguments()
-    assert (given["--tick"], given["--origin"], given["--closed"], given["--scale"]) == ("1s", "1970-01-01T01:00:00Z", "right", 1000)
+    assert series == convention_of(*words)
+    # A query that goes on takes neither a zone nor an end of its readings.
+    shared = words if not {"--zone", "--until"} & set(words) else ["--tick", "60s", "--scale", "10", "--max-age", "5min"]
+    follow = TextConvention.of(parser_of().parse_args(["follow", "query", "--state", "s", *shared]))
+    assert follow == convention_of(*shared)
 
 
 def test_what_a_convention_of_texts_gives_to_each_input():

@@ -211,6 +211,7 @@ def test_the_completion_has_the_options_of_tilt_live(root):
         "--decimal",
         "--times",
         "--decimals",
+        "--units",
     ]
     assert offered(root, "tilt-live", "query.tilt", "--", by="_tilt_live") == options
 

@@ -205,22 +205,22 @@ def test_notes_of_other_versions_are_read(told, version: str | None) -> None:
 
 
 @pytest.mark.parametrize("version", [None, "0.0.9", "99.0.0"])
-def test_states_have_the_version_and_go_on_from_others(tilt, tmp_path: pathlib.Path, version: str | None) -> None:
+def test_states_have_the_version_and_go_on_from_others(tilt, live, tmp_path: pathlib.Path, version: str | None) -> None:
     (tmp_path / "q").write_text("input x; emit x over (0, 40];")
     words = [sys.executable, "-m", "tilt_data", "follow", "q", "--state", "s"]
-    environment = {**os.environ, "PYTHONPATH": str(PYTHON) + os.pathsep + os.environ.get("PYTHONPATH", ""), "TILT": tilt}
+    environment = {**os.environ, "PYTHONPATH": str(PYTHON) + os.pathsep + os.environ.get("PYTHONPATH", ""), "TILT": tilt, "TILT_LIVE": live}
 
     def followed(text: str) -> tuple[int, str, str]:
         done = subprocess.run(words, input=text, cwd=tmp_path, env=environment, capture_output=True, text=True)
         return done.returncode, done.stdout, done.stderr
 
-    assert followed("x,0,5,7\n") == (0, "start,end,value\n", "")
-    notes = tmp_path / "s" / "notes.5"
+    assert followed("x,0,5,7\n") == (0, "start,end,value\n0,5,7\n", "")
+    notes = tmp_path / "s" / "taken.json"
     kept = json.loads(notes.read_text())
     assert kept.pop("version") == VERSION
     notes.write_text(json.dumps(kept if version is None else {**kept, "version": version}))
-    assert followed("x,5,8,9\n") == (0, "0,5,7\n", "")
-    assert json.loads((tmp_path / "s" / "notes.8").read_text())["version"] == VERSION
+    assert followed("x,5,8,9\n") == (0, "5,8,9\n", "")
+    assert json.loads(notes.read_text())["version"] == VERSION
 
 
 def test_outputs_of_scale_have_the_version(tilt, told, monkeypatch: pytest.MonkeyPatch) -> None:

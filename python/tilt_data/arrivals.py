@@ -11,8 +11,9 @@ from typing import Iterable, Iterator, NamedTuple
 from .clock import TIMES
 from .errors import Refused, note, printable, refused_at
 from .files import HEADER, failing_at, records, row_of, standard_input, whole
-from .follow import LONGEST, Lines
 
+# A line of more bytes than this is bad.
+LONGEST = 65536
 # A row: start, end and value. While its end isn't known, that is None; the same row with its end follows.
 Arrived = tuple[int, "int | None", int]
 
@@ -110,20 +111,26 @@ def read_arrivals(arrivals: Arrivals, series: int, file: str, is_printed: bool) 
 def lines_arriving(shown: str, number: int, is_printed: bool) -> Iterator[str]:
     """The whole lines of an open file as they arrive. If they are to be printed, all that arrives is, before it is looked at. A last line
     without an end can be half a line: it is reported and left out."""
-    lines, count = Lines(), 0
+    last, count = b"", 0
     while text := os.read(number, 1 << 16):
         rest = memoryview(text if is_printed else b"")
         with failing_at("standard output"):
             while rest:
                 # At once, past the buffer: a thread that is stopped while it holds that one would stop the command's end.
                 rest = rest[os.write(1, rest) :]
-        for line in lines.cut(text):
+        *lines, last = (last + text).split(b"\n")
+        for line in lines:
             count += 1
-            if len(line) > LONGEST:
-                raise refused_at(shown, count, f"a line of at most {LONGEST} bytes was expected")
-            yield line.decode(errors="backslashreplace")
-    if lines.rest:
-        note(f"{shown}: the last line has no end, and isn't drawn: {printable(lines.rest.decode(errors='backslashreplace')[:80])}")
+            yield whole_line(shown, count, line).rstrip(b"\r").decode(errors="backslashreplace")
+        whole_line(shown, count + 1, last)
+    if last:
+        note(f"{shown}: the last line has no end, and isn't drawn: {printable(last.decode(errors='backslashreplace')[:80])}")
+
+
+def whole_line(shown: str, number: int, line: bytes) -> bytes:
+    if len(line) > LONGEST:
+        raise refused_at(shown, number, f"a line of at most {LONGEST} bytes was expected")
+    return line
 
 
 def rows_arriving(shown: str, lines: Iterable[str]) -> Iterator[Arrived]:

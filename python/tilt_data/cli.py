@@ -16,7 +16,7 @@ from .errors import Refused, note, printable
 
 # The module of each command. A call loads that of its own alone.
 COMMANDS = {"series": "readings", "table": "table", "run": "why", "why": "why", "ticks": "ticks", "by": "by", "scale": "scaling"}
-COMMANDS |= {"follow": "follow", "plot": "plotting", "view": "view.command", "serve": "serve"}
+COMMANDS |= {"feeds": "feeds", "follow": "follow", "plot": "plotting", "view": "view.command", "serve": "serve"}
 
 
 def module_of(command: str) -> Any:

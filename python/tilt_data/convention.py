@@ -7,7 +7,7 @@ import datetime
 import numbers
 from typing import Any, Iterable, Literal, Mapping, TypedDict, TypeVar, Union
 
-from .clock import DAY, TIMES, Clock, Moments, duration_of, duration_text, moment_text, zone_of
+from .clock import DAY, TIMES, Clock, Moments, duration_of, moment_text, zone_of
 from .convert import TIES, Rule
 from .errors import Refused
 from .files import Notes, notes_of_like
@@ -134,22 +134,23 @@ class TextConvention(Convention):
 
     @staticmethod
     def add_to(parser: argparse.ArgumentParser, lasting: bool = False) -> None:
-        """Adds the options. If the query is `lasting`, NAME=FILE can follow any of them, so that each takes one argument, and no scale can
-        go by data that are still to come."""
+        """Adds the options; for a query that is `lasting` those that go neither by data that are still to come nor by a zone."""
         several: Any = {"action": "append"} if lasting else {"nargs": "+", "action": "extend"}
         auto = "" if lasting else "; auto for the smallest power of ten that makes them whole"
         add = parser.add_argument
         add("--unit", choices=["s", "ms", "us", "ns"], help="times are numbers since 1970 in this unit, and not ISO 8601")
-        add("--zone", help="the zone of times without an offset, such as Europe/Zurich (UTC)")
+        if not lasting:
+            add("--zone", help="the zone of times without an offset, such as Europe/Zurich (UTC)")
         add("--tick", help="the length of a tick, such as 1s, 1ms or 1min")
-        midnight = "" if lasting else " (the midnight before the first reading)"
-        add("--origin", help=f"the moment at which the first tick starts{midnight}")
+        midnight = "1970-01-01T00:00:00Z" if lasting else "the midnight before the first reading"
+        add("--origin", help=f"the moment at which the first tick starts ({midnight})")
         add("--like", metavar="SERIES", help="take tick, origin and scale from the JSON file beside this series")
         add("--scale", metavar="N", default=[], help=f"values times N are whole{auto}; NAME=N for one series", **several)
         add("--hold", choices=["next"], help="a reading holds until the next one (the default without --event)")
-        longest = "a reading holds no longer than this, such as 5min; NAME=5min for one series"
+        longest = f"a reading holds no longer than this, such as 5min{'' if lasting else '; NAME=5min for one series'}"
         add("--max-age", metavar="DURATION", default=[], help=longest, **several)
-        add("--until", metavar="TIME", help="until when the last reading holds (one tick, or --max-age)")
+        if not lasting:
+            add("--until", metavar="TIME", help="until when the last reading holds (one tick, or --max-age)")
         add("--event", action="store_true", help="a reading is an event of one tick")
         add("--closed", choices=["left", "right"], help="which edge of a tick belongs to it, as in pandas (left)")
         ties = "which of the readings in one tick counts: the last, the first, or each, in ticks one after another"
@@ -219,28 +220,6 @@ class TextConvention(Convention):
             raise Refused(f"--origin {self.origin}: in UTC it lies outside of the years 1 to 9999: name another moment")
         return Clock(tick, midnight_before(first, self.zone) if origin is None else origin, closed)
 
-    def arguments(self) -> dict[str, Any]:
-        """All that makes rows of readings, by the option that gives it. The clock and the scale are those that --tick, --origin, --closed,
-        --scale and --like give together. Each value has one spelling, which the option takes."""
-        tick, origin, closed = self.given
-        scales = dict(self.scale) if isinstance(self.scale, Mapping) else {"": self.scale}
-        scales.setdefault("", 1 if self.like is None else self.like.scale)
-        ages = self.max_age if isinstance(self.max_age, Mapping) else {}
-        return {
-            "--tick": None if tick is None else duration_text(tick),
-            "--origin": None if origin is None else time_text(origin),
-            "--closed": closed,
-            "--scale": scales[""] if len(scales) == 1 else spelled_all("--scale", scales),
-            "--zone": self.zone or "UTC",
-            "--unit": self.unit,
-            "--max-age": spelled_all("--max-age", {name: duration_text(duration_of(age)) for name, age in ages.items()}),
-            "--until": None if self.until is None else time_text(self.moment(self.until)),
-            "--ties": self.ties,
-            "--null": ",".join(sorted(self.null)) or None,
-            "--event": self.event,
-            "--skip-empty": self.skip_empty,
-        }
-
 
 def convention_of(convention: Convention | None, options: Mapping[str, object], others: Iterable[str] = ()) -> Convention:
     """The convention with these options; `others` are the names of the arguments that the caller also takes."""
@@ -269,10 +248,6 @@ def named_once(option: str, words: list[str]) -> dict[str, str]:
             raise Refused(f"{option} {what}: it is given twice, as {found[name]} and {text}: give it once")
         found[name] = text
     return found
-
-
-def spelled_all(option: str, given: Mapping[str, Any]) -> str | None:
-    return f" {option} ".join(f"{name}={given[name]}" if name else f"{given[name]}" for name in sorted(given)) or None
 
 
 def values_of(given: Any) -> list[Any]:

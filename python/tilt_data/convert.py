@@ -2,7 +2,7 @@
 from __future__ import annotations
 
 import dataclasses
-from typing import Any, NamedTuple
+from typing import NamedTuple
 
 from .clock import Clock
 from .files import Row
@@ -81,13 +81,6 @@ class Converter:
         row = self.row(later)
         self.moment = None
         return row
-
-    def dump(self) -> dict[str, Any]:
-        """What has to be kept to go on later."""
-        return {"moment": self.moment, "start": self.start, "value": self.value}
-
-    def load(self, kept: dict[str, Any]) -> None:
-        self.moment, self.start, self.value = kept["moment"], kept["start"], kept["value"]
 
 
 def row_text(row: Row) -> str:

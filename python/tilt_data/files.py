@@ -339,11 +339,11 @@ def failing_at(path: str) -> Iterator[None]:
         raise Refused(f"{path}: it can't be written: {error.strerror}") from error
 
 
-def locked(folder: str, command: str) -> IO[str]:
+def locked(folder: str, command: str, name: str = "lock") -> IO[str]:
     """The lock of a folder, in which only one call of a command works: it is held until it is closed. The folder is made if need be."""
     try:
         os.makedirs(folder, exist_ok=True)
-        lock = open(os.path.join(folder, "lock"), "a")
+        lock = open(os.path.join(folder, name), "a")
     except OSError as error:
         raise Refused(f"{folder}: it can't be made: {error.strerror}") from error
     try:

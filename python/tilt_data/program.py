@@ -16,30 +16,34 @@ from .errors import Refused
 # The program refuses with these; with all others it may be called again.
 REFUSALS = (1, 2)
 TOP = pathlib.Path(__file__).resolve().parent.parent.parent
-CHECKOUT = TOP / "crates" / "tilt" / "out" / "tilt"
 FINDER = TOP / "tools" / "package" / "program"
+# Of each program the variable that names it, its crate, and its names on the path.
+PROGRAMS = {"tilt": ("TILT", "tilt", ("tilt-stream", "tilt")), "tilt-live": ("TILT_LIVE", "tilt_live_program", ("tilt-live",))}
 
 
-def program() -> str:
-    """The path of the program: what TILT names, the one that was built in the checkout, the one that was released from its sources, or
-    `tilt-stream` or `tilt` on the path."""
-    named = os.environ.get("TILT")
+def program(command: str = "tilt") -> str:
+    """The path of a program: what TILT or TILT_LIVE names, the one that was built in the checkout, the one that was released from its
+    sources, or the one on the path, of which `tilt` can be `tilt-stream`."""
+    variable, crate, names = PROGRAMS[command]
+    named = os.environ.get(variable)
     if named:
         return named
-    if os.access(CHECKOUT, os.X_OK):
-        return str(CHECKOUT)
-    found = released() or shutil.which("tilt-stream") or shutil.which("tilt")
+    built = TOP / "crates" / crate / "out" / crate
+    if os.access(built, os.X_OK):
+        return str(built)
+    found = released(command) or next(filter(None, map(shutil.which, names)), None)
     if found is None:
-        raise Refused("the program isn't there: build it by ./tilt in the checkout, put it on the path, or name it by TILT=/path/of/tilt")
+        cure = f"build it by ./{command} in the checkout, put it on the path, or name it by {variable}=/path/of/{command}"
+        raise Refused(f"the program isn't there: {cure}")
     return found
 
 
 @functools.cache
-def released() -> str | None:
+def released(command: str) -> str | None:
     """The program that was released from the sources of this checkout; None if there is none, or this is no checkout."""
     if not os.access(FINDER, os.X_OK):
         return None
-    done = subprocess.run([FINDER, "--found"], stdin=subprocess.DEVNULL, capture_output=True, text=True)
+    done = subprocess.run([FINDER, "--found", command], stdin=subprocess.DEVNULL, capture_output=True, text=True)
     return done.stdout.removesuffix("\n") if done.returncode == 0 else None
 
 
@@ -77,21 +81,24 @@ class Processes:
         out: IO[bytes] | int | None,
         stdin: int | None = subprocess.DEVNULL,
         handed: Iterable[int] = (),
+        command: str = "tilt",
     ) -> Called:
-        """Calls the program. Its output goes to `out`, of which None is that of this process, and is kept if that is a pipe. Its input is
-        empty, or that of this process if `stdin` is None. It gets the descriptors `handed` under their numbers. An OSError says why the
-        program can't be run."""
+        """Calls a program. Its output goes to `out`, of which None is that of this process, and is kept if that is a pipe. Its input is
+        empty, that of this process if `stdin` is None, or a descriptor. It gets the descriptors `handed` under their numbers. An OSError
+        says why the program can't be run."""
         # These are files: a pipe would stay open as long as a child of a program that was stopped.
         with open(os.memfd_create("tilt-data"), "w+b") as told, open(os.memfd_create("tilt-data"), "w+b") as printed:
             place = printed if out == subprocess.PIPE else out
             streams: list[Any] = [(os.POSIX_SPAWN_DUP2, told.fileno(), 2)]
             if place is not None:
                 streams.append((os.POSIX_SPAWN_DUP2, place if isinstance(place, int) else place.fileno(), 1))
-            if stdin is not None:
+            if stdin == subprocess.DEVNULL:
                 streams.append((os.POSIX_SPAWN_OPEN, 0, os.devnull, os.O_RDONLY, 0))
+            elif stdin is not None:
+                streams.append((os.POSIX_SPAWN_DUP2, stdin, 0))
             # A descriptor that takes its own number stays open in the program, and in no other.
             streams += [(os.POSIX_SPAWN_DUP2, number, number) for number in handed]
-            path = program()
+            path = program(command)
             with self.lock:
                 self.check()
                 # The words may name descriptors of the caller, such as /dev/fd/63 of a shell. Those of Python are closed in a child anyway.
@@ -125,10 +132,11 @@ def call(
     out: IO[bytes] | int | None = subprocess.PIPE,
     stdin: int | None = subprocess.DEVNULL,
     its: Processes | None = None,
+    command: str = "tilt",
 ) -> Called:
-    """Calls the program as `Processes.call` does. A program that can't be run is a Refused."""
+    """Calls a program as `Processes.call` does. A program that can't be run is a Refused."""
     try:
-        return (its or Processes()).call(words, out, stdin)
+        return (its or Processes()).call(words, out, stdin, command=command)
     except OSError as error:
         raise Refused(f"the program can't be run: {error.strerror}") from error
 

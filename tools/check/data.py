@@ -131,6 +131,7 @@ def main(arguments: list[str]) -> int:
     tally = Tally()
     if which != "without-program":
         build_program()
+        build_program("tilt-live")
         if not os.access(BUILT, os.X_OK):
             tally.expect(False, NOT_BUILT)
     install(missing() + [package for package in BROWSER if which != "without-program" and not is_there(package)])
