@@ -542,7 +542,7 @@ FAULTS = [
 @pytest.mark.parametrize("words, what", [*USAGE, *FAULTS])
 def test_words_are_read_before_any_line(tilt, live, tmp_path, words, what):
     simple(tmp_path)
-    # The stream doesn't end: what is told doesn't wait for it.
+    # The stream doesn't end: reports don't wait for it.
     process = follow(tmp_path, "--state", "s", *words)
     assert process.wait(60) == (2 if (words, what) in USAGE else 1)
     assert what in done(process)[2]
