@@ -70,7 +70,7 @@ def test_cases_that_could_have_been_run_are_a_failure(apt, monkeypatch, capsys, 
 @pytest.mark.parametrize("user, status", [(0, 1), (1000, 0)])
 def test_tests_that_could_have_been_run_are_a_failure(apt, monkeypatch, capsys, user, status):
     # No call of this test builds the program or runs the tests.
-    monkeypatch.setattr(data, "build_program", lambda: None)
+    monkeypatch.setattr(data, "build_program", lambda command="tilt": None)
     monkeypatch.setattr(data, "BUILT", "/bin/true")
     monkeypatch.setattr(data, "is_there", lambda package: package == "m4")
     monkeypatch.setattr(os, "geteuid", lambda: user)
