@@ -7,6 +7,7 @@ pub mod GridPoints
 pub mod Last
 pub mod Lists
 pub mod Multiples
+pub mod Reducers
 pub mod Spelling
 pub mod Totals
 pub mod Wide

@@ -1,9 +1,11 @@
 -- The reducers on a list of numbers (our own rule). Each is null on the empty list.
 use Rattle.std.specs.Prelude.{ℤ, pos, ◌+ℤ◌, List, [], ◌∷◌, length, Option, Some, None, int_div, fold, codes, ℕ}
 use Rattle.std.specs.Int.{int_min, int_max}
-use Rattle.std.specs.List.{list_any, list_all}
+use Rattle.std.specs.List.{find, list_any, list_all}
+use Rattle.std.specs.Str.{bytes_eq}
 use Rattle.tilt_base.specs.declared.reducer.Reducer.{Reducer}
 use Rattle.tilt_base.specs.declared.reducer.Reducer.TheVariants.{Sum, Avg, Min, Max, Count, First, Last, Any, All}
+use Rattle.tilt_base.specs.declared.reducer.TheConstants.{REDUCERS}
 use Rattle.tilt_base.specs.Number.{within_64_bits}
 use Rattle.tilt_base.specs.Scalar.{is_true, truth}
 
@@ -51,3 +53,7 @@ reducer_word First = codes "first"
 reducer_word Last = codes "last"
 reducer_word Any = codes "any"
 reducer_word All = codes "all"
+
+-- the reducer with this word
+abbrev pub reducer_with : List ℕ → Option Reducer
+reducer_with word = find (λ r. bytes_eq (reducer_word r) word) REDUCERS

@@ -23,6 +23,6 @@ pub use grid::Grid;
 pub use limits::{FILE, OFFSET, PERIOD, REACH, T, WIDE};
 pub use number::{read_cell, read_number, read_shortest};
 pub use operator::{Op1, Op2};
-pub use reducer::{Reducer, reduce};
+pub use reducer::{REDUCERS, Reducer, reduce};
 pub use scalar::{apply1, apply2, choose};
 pub use span::Span;

@@ -2,7 +2,7 @@
 ghost use Rattle.std.specs.Prelude.{◌≡◌, ◌*◌, ◌<◌, ◌≤ℤ◌, fold, int_div, length, neg_ℤ, pos};
 ghost use Rattle.std.specs.Int.{int_max, int_min};
 ghost use Rattle.std.specs.List.{list_all, list_any};
-ghost use Rattle.tilt_base.specs.Reduce.{reduce, reducer_word, total};
+ghost use Rattle.tilt_base.specs.Reduce.{reduce, reducer_with, reducer_word, total};
 ghost use Rattle.tilt_base.specs.Scalar.{is_true};
 
 use crate::cell::Cell;
@@ -27,6 +27,19 @@ pub enum Reducer {
     All,
 }
 
+/// Each reducer.
+pub const REDUCERS: [Reducer; 9] = [
+    Reducer::Sum,
+    Reducer::Avg,
+    Reducer::Min,
+    Reducer::Max,
+    Reducer::Count,
+    Reducer::First,
+    Reducer::Last,
+    Reducer::Any,
+    Reducer::All,
+];
+
 impl Reducer {
     /// The word of the reducer, in queries and in listings.
     pub fn word(self) -> &'static [u8]
@@ -43,6 +56,16 @@ impl Reducer {
             Reducer::Any => b"any",
             Reducer::All => b"all",
         }
+    }
+
+    /// The reducer with this word, or `None` if there is none.
+    pub fn read(word: &[u8]) -> Option<Reducer>
+        ensures { result ≡ reducer_with word.now }
+    {
+        REDUCERS
+            .iter()
+            .copied()
+            .find(|reducer| reducer.word() == word)
     }
 }
 

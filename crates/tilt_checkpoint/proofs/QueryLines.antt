@@ -9,6 +9,7 @@ use Rattle.tilt_base.specs.Expression.{Leaf, One, Two, If}
 use Rattle.tilt_base.specs.declared.operator.Op1.TheVariants as op1
 use Rattle.tilt_base.specs.declared.operator.Op2.{Op2}
 use Rattle.tilt_base.specs.declared.operator.Op2.TheVariants as op2
+use Rattle.tilt_base.specs.Reduce.{reducer_word}
 use Rattle.tilt_base.specs.declared.reducer.Reducer.{Reducer}
 use Rattle.tilt_base.specs.declared.reducer.Reducer.TheVariants as reducer
 use Rattle.tilt_text.specs.Step.{◌>>=◌}
@@ -16,13 +17,13 @@ use Rattle.tilt_text.proofs.Lacks.{Lacks, all_lack, lacks-append, signed_lacks}
 use Rattle.tilt_text.proofs.Words.{until-front}
 use Rattle.tilt_lexer.proofs.Fronts.{word_goes_on}
 use Rattle.tilt_lexer.specs.Tokens.{greatest_number}
-use Rattle.tilt_lexer.specs.Word.{IsWord, goes_on_word, key_text}
+use Rattle.tilt_lexer.specs.Word.{IsWord, goes_on_word}
 use Rattle.tilt_lexer.specs.declared.mark.Mark.TheVariants as mark
 use Rattle.tilt_lexer.specs.declared.token.Tok.{Tok}
 use Rattle.tilt_lexer.specs.declared.token.Tok.TheVariants.{Mark as Sign}
 use Rattle.tilt_syntax.proofs.Sounds.{EachSound, sound_parts, statement_sound, statements_sound}
 use Rattle.tilt_syntax.proofs.Written.{bound_tokens, domain_tokens, expr_tokens, from_tokens, grid_tokens, offset_tokens, operands_tokens, place_tokens, span_tokens, statement_tokens}
-use Rattle.tilt_syntax.specs.Grammar.{Infix, infix_of, reducer_key}
+use Rattle.tilt_syntax.specs.Grammar.{Infix, infix_of}
 use Rattle.tilt_syntax.specs.Printing.{domain_text, expr_text, from_text, grid_text, in_place, level_of, offset_text, operands_text, query_text, sign_text, span_text, statement_text}
 use Rattle.tilt_syntax.specs.Query.{AreGood, AreSound, IsQuery, statements}
 use Rattle.tilt_syntax.specs.Tree.{Num, Truth, Read, Reduce, ExprTree, StatementTree, Input, Let, Emit}
@@ -59,16 +60,8 @@ offset_plain (pos zero) s = refl
 offset_plain (pos (suc n)) s = join (codes "t+") (signed_decimal (pos (suc n))) refl (number_plain (pos (suc n)) (sound_fits (pos (suc n)) s.1.1.0))
 offset_plain (negsuc n) s = join (codes "t") (signed_decimal (negsuc n)) refl (number_plain (negsuc n) (below_fits n s.1.1.0))
 
-reducer_plain : (r : Reducer) → OneLine (key_text (reducer_key r))
-reducer_plain reducer.Sum = refl
-reducer_plain reducer.Avg = refl
-reducer_plain reducer.Min = refl
-reducer_plain reducer.Max = refl
-reducer_plain reducer.Count = refl
-reducer_plain reducer.First = refl
-reducer_plain reducer.Last = refl
-reducer_plain reducer.Any = refl
-reducer_plain reducer.All = refl
+reducer_plain : (r : Reducer) → OneLine (reducer_word r)
+reducer_plain r = elim r as (λ q. OneLine (reducer_word q)) [ reducer.Sum ↦ refl | _ ↦ refl ]
 
 -- a text in its place is plain where it is
 placed : (t : Bool) (ts : List Tok) (text : List ℕ) → AreSound (if t then Sign mark.OpenParen ∷ (ts ++ (Sign mark.CloseParen ∷ [])) else ts)
@@ -134,7 +127,7 @@ expr_plain (Leaf (Read x (negsuc n))) s = at_offset x (negsuc n) s.0.0 s.1.1
 expr_plain (Leaf (Reduce r x from to)) s =
     let first = sound_parts (offset_tokens from) _ s.1.1.1.1 in
     let second = sound_parts (offset_tokens to) _ first.1.1 in
-    let word = key_text (reducer_key r) in
+    let word = reducer_word r in
     let opened = word ++ codes "(" ++ x ++ codes "[" in
     let start = join (word ++ codes "(" ++ x) (codes "[") (join (word ++ codes "(") x (join word (codes "(") (reducer_plain r) refl) (name_plain x s.1.1.0.0)) refl in
     let before = join opened (offset_text from) start (offset_plain from first.0) in

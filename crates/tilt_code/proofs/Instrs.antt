@@ -11,16 +11,15 @@ use Rattle.std.proofs.lemmas.Int.{ints}
 use Rattle.std.proofs.lemmas.Option.{some_pair_parts}
 use Rattle.tilt_base.proofs.Comparisons.{lt_true, true_lt, bytes_same}
 use Rattle.tilt_base.specs.Offset.{IsOffset}
-use Rattle.tilt_base.specs.Reduce.{reducer_word}
+use Rattle.tilt_base.specs.Reduce.{reducer_with, reducer_word}
 use Rattle.tilt_base.specs.declared.limits.TheConstants.{OFFSET}
 use Rattle.tilt_base.specs.declared.operator.Op1.{Op1}
 use Rattle.tilt_base.specs.declared.operator.Op1.TheVariants as op1
 use Rattle.tilt_base.specs.declared.operator.Op2.{Op2}
 use Rattle.tilt_base.specs.declared.operator.Op2.TheVariants as op2
 use Rattle.tilt_base.specs.declared.reducer.Reducer.{Reducer}
-use Rattle.tilt_base.specs.declared.reducer.Reducer.TheVariants as reducer
 use Rattle.tilt_base.proofs.Lists.{guard_some}
-use Rattle.tilt_lexer.proofs.Differ.{found_passes}
+use Rattle.tilt_base.proofs.Reducers.{found_passes, reducer_found, reducer_with-word}
 use Rattle.tilt_text.specs.Step.{◌>>=◌}
 use Rattle.tilt_text.specs.Spelled.{shortest}
 use Rattle.tilt_text.proofs.Step.{bind_some}
@@ -30,7 +29,7 @@ use Rattle.tilt_code.specs.Line.{one_word, two_word, buffer_word, register_word,
 use Rattle.tilt_code.specs.Reading.{named, number_at, named_at, is_offset, offset_at, reducer_at, map_at, const_at, port_at, win_at, if_at, two_at, one_at, form_at, instr_at}
 use Rattle.tilt_code.specs.declared.instr.Instr.{Instr}
 use Rattle.tilt_code.specs.declared.instr.Instr.TheVariants as instr
-use Rattle.tilt_code.specs.declared.word.TheConstants.{ONES, TWOS, REDUCERS}
+use Rattle.tilt_code.specs.declared.word.TheConstants.{ONES, TWOS}
 use Rattle.tilt_code.proofs.Numbers.{named-decimal, decimal-named}
 
 abbrev pub Words : Type 0
@@ -96,21 +95,13 @@ offset_again z rest h =
 reducer_takes : (words : Words) (r : Reducer) (rest : Words) → reducer_at words ≡ Some (r, rest) → words ≡ reducer_word r ∷ rest
 reducer_takes [] r rest e = absurd (cc e)
 reducer_takes (w ∷ ws) r rest e =
-    let b = bind_some (find (λ q. bytes_eq (reducer_word q) w) REDUCERS) (λ q. Some (q, ws)) (r, rest) e in
+    let b = bind_some (reducer_with w) (λ q. Some (q, ws)) (r, rest) e in
     let p = pair_is b.0 r ws rest b.2 in
-    let same = bytes_same (reducer_word b.0) w (found_passes (λ q. bytes_eq (reducer_word q) w) REDUCERS b.0 b.1) in
+    let same = reducer_found w b.0 b.1 in
     λ i. (sym same ∙ ap reducer_word p.0) i ∷ p.1 i
 
 reducer_again : (r : Reducer) (rest : Words) → reducer_at (reducer_word r ∷ rest) ≡ Some (r, rest)
-reducer_again reducer.Sum rest = refl
-reducer_again reducer.Avg rest = refl
-reducer_again reducer.Min rest = refl
-reducer_again reducer.Max rest = refl
-reducer_again reducer.Count rest = refl
-reducer_again reducer.First rest = refl
-reducer_again reducer.Last rest = refl
-reducer_again reducer.Any rest = refl
-reducer_again reducer.All rest = refl
+reducer_again r rest = ap (λ (found : Option Reducer). found >>= λ q. Some (q, rest)) (reducer_with-word r)
 
 two_found : (op : Op2) → find (λ o. bytes_eq (two_word o) (two_word op)) TWOS ≡ Some op
 two_found op2.Add = refl

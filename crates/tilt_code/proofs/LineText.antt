@@ -279,15 +279,7 @@ plain_signed : (z : ℤ) → FitsSigned w64 z → Plain (signed_decimal z)
 plain_signed z h = plain_from (signed_decimal z) (signed_lacks 32 (omega arith) z h) (signed_lacks 10 (omega arith) z h)
 
 plain_reducer : (r : Reducer) → Plain (reducer_word r)
-plain_reducer reducer.Sum = refl
-plain_reducer reducer.Avg = refl
-plain_reducer reducer.Min = refl
-plain_reducer reducer.Max = refl
-plain_reducer reducer.Count = refl
-plain_reducer reducer.First = refl
-plain_reducer reducer.Last = refl
-plain_reducer reducer.Any = refl
-plain_reducer reducer.All = refl
+plain_reducer r = elim r as (λ q. Plain (reducer_word q)) [ reducer.Sum ↦ refl | _ ↦ refl ]
 
 plain_one : (op : Op1) → Plain (one_word op)
 plain_one op1.Neg = refl

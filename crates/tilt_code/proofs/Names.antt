@@ -4,10 +4,12 @@ use Rattle.std.specs.List.{list_any}
 use Rattle.std.specs.Str.{bytes_eq}
 use Rattle.std.proofs.lemmas.Bool.{cases_Bool}
 use Rattle.tilt_base.proofs.Comparisons.{bytes_same}
-use Rattle.tilt_lexer.specs.Word.{key_text, IsReserved}
+use Rattle.tilt_base.specs.Reduce.{reducer_word}
+use Rattle.tilt_base.specs.declared.reducer.Reducer.TheVariants as reducer
+use Rattle.tilt_lexer.specs.Word.{key_text, keys, IsReserved}
 use Rattle.tilt_lexer.specs.declared.key.Key.{Key}
 use Rattle.tilt_lexer.specs.declared.key.Key.TheVariants as key
-use Rattle.tilt_code.specs.Reading.{is_reserved, keys}
+use Rattle.tilt_code.specs.Reading.{is_reserved}
 
 any_some : {X : Type 0} (test : X → Bool) (xs : List X) → list_any test xs ≡ true → (x : X) × (test x ≡ true)
 any_some test [] e = absurd (cc e)
@@ -33,15 +35,7 @@ each_key key.FalseWord = refl
 each_key key.IsNull = refl
 each_key key.IfNull = refl
 each_key key.Time = refl
-each_key key.Sum = refl
-each_key key.Avg = refl
-each_key key.Min = refl
-each_key key.Max = refl
-each_key key.Count = refl
-each_key key.First = refl
-each_key key.Last = refl
-each_key key.Any = refl
-each_key key.All = refl
+each_key (key.Reducer r) = elim r as (λ q. is_reserved (reducer_word q) ≡ true) [ reducer.Sum ↦ refl | _ ↦ refl ]
 
 pub true_reserved : (bytes : List ℕ) → IsReserved bytes → is_reserved bytes ≡ true
 true_reserved bytes r = ap is_reserved (sym r.1) ∙ each_key r.0

@@ -4,21 +4,19 @@ use Rattle.std.specs.Prelude.{if◌then◌else◌, List, [], ◌∷◌, Option, 
 use Rattle.std.specs.List.{find, list_any, slice_split}
 use Rattle.std.specs.Str.{bytes_eq}
 use Rattle.tilt_base.specs.Grid.{GridPoints, is_grid}
-use Rattle.tilt_base.specs.Reduce.{reducer_word}
+use Rattle.tilt_base.specs.Reduce.{reducer_with}
 use Rattle.tilt_base.specs.declared.limits.TheConstants.{OFFSET, WIDE}
 use Rattle.tilt_base.specs.declared.operator.Op1.{Op1}
 use Rattle.tilt_base.specs.declared.reducer.Reducer.{Reducer}
 use Rattle.tilt_text.specs.Spelled.{shortest}
 use Rattle.tilt_text.specs.Step.{◌>>=◌}
-use Rattle.tilt_lexer.specs.Word.{is_word, key_text}
-use Rattle.tilt_lexer.specs.declared.key.Key.{Key}
-use Rattle.tilt_lexer.specs.declared.key.Key.TheVariants as key
+use Rattle.tilt_lexer.specs.Word.{is_word, key_text, keys}
 use Rattle.tilt_code.specs.Line.{one_word, two_word}
 use Rattle.tilt_code.specs.declared.instr.Instr.{Instr}
 use Rattle.tilt_code.specs.declared.instr.Instr.TheVariants as instr
 use Rattle.tilt_code.specs.declared.line.Line.{Line}
 use Rattle.tilt_code.specs.declared.line.Line.TheVariants as line
-use Rattle.tilt_code.specs.declared.word.TheConstants.{ONES, TWOS, REDUCERS}
+use Rattle.tilt_code.specs.declared.word.TheConstants.{ONES, TWOS}
 
 -- the pieces of bytes between those that are the mark, of which there is at least one
 abbrev pub pieces : ℕ → List ℕ → List (List ℕ)
@@ -72,7 +70,7 @@ offset_at words = do
 abbrev pub reducer_at : List (List ℕ) → Option (Reducer × List (List ℕ))
 reducer_at words = do
   word ← word_at words
-  reducer ← find (λ r. bytes_eq (reducer_word r) word.0) REDUCERS
+  reducer ← reducer_with word.0
   Some (reducer, word.1)
 
 -- the number of the map, if there is a word
@@ -189,14 +187,6 @@ other_at first words =
 abbrev pub only : {A : Type 0} → A × List (List ℕ) → Option A
 only (x, []) = Some x
 only (x, word ∷ words) = None
-
--- each reserved word
-abbrev pub keys : List Key
-keys =
-    key.Input ∷ key.Let ∷ key.Emit ∷ key.Over ∷ key.Every ∷ key.From ∷ key.If ∷
-    key.Then ∷ key.Else ∷ key.When ∷ key.Or ∷ key.And ∷ key.Not ∷ key.TrueWord ∷
-    key.FalseWord ∷ key.IsNull ∷ key.IfNull ∷ key.Time ∷ key.Sum ∷ key.Avg ∷ key.Min ∷
-    key.Max ∷ key.Count ∷ key.First ∷ key.Last ∷ key.Any ∷ key.All ∷ []
 
 -- whether the bytes are a reserved word
 abbrev pub is_reserved : List ℕ → Bool

@@ -2,7 +2,6 @@
 ghost use Rattle.std.specs.Prelude.{◌≡◌, ◌↔◌, [], ◌∷◌, option_map, IsTrue, MatchOption};
 ghost use Rattle.std.specs.List.{find};
 ghost use Rattle.std.specs.Str.{bytes_eq};
-ghost use Rattle.tilt_base.specs.Reduce.{reducer_word};
 ghost use Rattle.tilt_code.specs.Line.{one_word, two_word};
 ghost use Rattle.tilt_code.specs.Reading.{map_at, named, named_at, number_at, offset_at, pieces, pieces_left, reducer_at, word_at, Reads};
 
@@ -31,19 +30,6 @@ const TWOS: [Op2; 15] = [
     Op2::Or,
     Op2::When,
     Op2::IfNull,
-];
-
-// Each reducer.
-const REDUCERS: [Reducer; 9] = [
-    Reducer::Sum,
-    Reducer::Avg,
-    Reducer::Min,
-    Reducer::Max,
-    Reducer::Count,
-    Reducer::First,
-    Reducer::Last,
-    Reducer::Any,
-    Reducer::All,
 ];
 
 // The words of a line from a place on, with a single blank between them. A clause sees them as a list.
@@ -111,7 +97,7 @@ impl<'a> Words<'a> {
     pub(crate) fn reducer(&mut self) -> Option<Reducer>
         ensures { Reads (reducer_at self.old) result self.new }
     {
-        find_reducer(self.next()?)
+        Reducer::read(self.next()?)
     }
 
     // The number of the map, if there is a word.
@@ -158,14 +144,4 @@ pub(crate) fn find_two(word: &[u8]) -> Option<Op2>
     ensures { result ≡ find (λ op. bytes_eq (two_word op) word.now) TWOS }
 {
     TWOS.iter().copied().find(|op| two_word(*op) == word)
-}
-
-// The reducer with this word.
-fn find_reducer(word: &[u8]) -> Option<Reducer>
-    ensures { result ≡ find (λ r. bytes_eq (reducer_word r) word.now) REDUCERS }
-{
-    REDUCERS
-        .iter()
-        .copied()
-        .find(|reducer| reducer.word() == word)
 }

@@ -3,6 +3,7 @@ use Rattle.std.proofs.Common.{◌≡◌, ◌≤◌, ◌<◌, ◌+◌, ◌*◌, �
 use Rattle.std.proofs.lemmas.Int.{ints}
 use Rattle.std.specs.Prelude.{⊤}
 use Rattle.tilt_base.specs.Expression.{Leaf, Two}
+use Rattle.tilt_base.specs.Reduce.{reducer_word}
 use Rattle.tilt_base.specs.Grid.{GridPoints, is_point}
 use Rattle.tilt_base.proofs.GridPoints.{is_point-Decides}
 use Rattle.tilt_base.specs.declared.limits.TheConstants.{FILE}
@@ -70,15 +71,7 @@ one_letter b other key.FalseWord e = cc
 one_letter b other key.IsNull e = cc
 one_letter b other key.IfNull e = cc
 one_letter b other key.Time e = other cc
-one_letter b other key.Sum e = cc
-one_letter b other key.Avg e = cc
-one_letter b other key.Min e = cc
-one_letter b other key.Max e = cc
-one_letter b other key.Count e = cc
-one_letter b other key.First e = cc
-one_letter b other key.Last e = cc
-one_letter b other key.Any e = cc
-one_letter b other key.All e = cc
+one_letter b other (key.Reducer r) e = elim r as (λ q. reducer_word q ≡ b ∷ [] → ⊥) [ reducer.Sum ↦ λ is. cc | _ ↦ λ is. cc ] e
 
 -- a name of one letter may stand
 name : (b : ℕ) → (b ≡ 116 → ⊥) → ¬ (IsReserved (b ∷ []))

@@ -1,6 +1,9 @@
 -- A query whose core keeps what cores keep: `input x; emit x over (2, 12] every 5 from 2`. So the law of cores isn't empty.
 use Rattle.std.proofs.Common.{◌≡◌, ℕ, pos, List, [], ◌∷◌, Some, refl, ap, get_or, arith, codes}
 use Rattle.std.proofs.lemmas.Int.{ints}
+use Rattle.tilt_base.specs.Reduce.{reducer_word}
+use Rattle.tilt_base.specs.declared.reducer.Reducer.{Reducer}
+use Rattle.tilt_base.specs.declared.reducer.Reducer.TheVariants as reducer
 use Rattle.tilt_lexer.specs.Word.{key_text}
 use Rattle.tilt_lexer.specs.declared.key.Key.{Key}
 use Rattle.tilt_lexer.specs.declared.key.Key.TheVariants as key
@@ -8,9 +11,12 @@ use Rattle.tilt_core.specs.Core.{CoreParts, IsCore}
 use Rattle.tilt_base.specs.Expression.{Leaf}
 use Rattle.tilt_core.specs.CoreTree.{Read}
 
+no_reducer_x : (r : Reducer) → reducer_word r ≡ codes "x" → ⊥
+no_reducer_x r = elim r as (λ q. reducer_word q ≡ codes "x" → ⊥) [ reducer.Sum ↦ λ e. cc | _ ↦ λ e. cc ]
+
 -- no reserved word is `x`
 no_key_x : (k : Key) → key_text k ≡ codes "x" → ⊥
-no_key_x k = elim k as (λ j. key_text j ≡ codes "x" → ⊥) [ key.Time ↦ λ e. absurd (omega (arith, ap (λ (text : List ℕ). get_or text 0 0) e)) | _ ↦ λ e. cc ]
+no_key_x k = elim k as (λ j. key_text j ≡ codes "x" → ⊥) [ key.Time ↦ λ e. absurd (omega (arith, ap (λ (text : List ℕ). get_or text 0 0) e)) | key.Reducer r ↦ no_reducer_x r | _ ↦ λ e. cc ]
 
 emits_input : CoreParts
 emits_input = record {

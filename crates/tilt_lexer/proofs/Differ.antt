@@ -1,34 +1,20 @@
 -- No two reserved words have one text, nor have two signs: each is found by its text.
-use Rattle.std.proofs.Common.{◌≡◌, ◌≢◌, inl, inr, ℕ, Bool, true, List, [], ◌∷◌, Option, Some, None, refl, sym, ap, ◌∙◌}
+use Rattle.std.proofs.Common.{◌≡◌, ◌≢◌, ℕ, List, [], ◌∷◌, Option, Some, None, refl, sym, ap, ◌∙◌}
 use Rattle.std.specs.List.{find}
 use Rattle.std.specs.Str.{bytes_eq}
-use Rattle.std.proofs.lemmas.Bool.{cases_Bool}
 use Rattle.std.proofs.lemmas.Option.{same_Some}
 use Rattle.std.proofs.lemmas.Slice.Eq.{bytes_eq-Decides}
+use Rattle.tilt_base.proofs.Reducers.{found_passes}
+use Rattle.tilt_base.specs.Reduce.{reducer_word}
+use Rattle.tilt_base.specs.declared.reducer.Reducer.TheVariants as reducer
 use Rattle.tilt_lexer.specs.declared.key.Key.{Key}
 use Rattle.tilt_lexer.specs.declared.key.Key.TheVariants as key
 use Rattle.tilt_lexer.specs.declared.mark.Mark.{Mark}
 use Rattle.tilt_lexer.specs.declared.mark.Mark.TheVariants as mark
 use Rattle.tilt_lexer.specs.Tokens.{mark_text}
-use Rattle.tilt_lexer.specs.Word.{key_text}
+use Rattle.tilt_lexer.specs.Word.{key_text, keys}
 
--- what is found in a list passes
-pub found_passes : {X : Type 0} (p : X → Bool) (xs : List X) (x : X) → find p xs ≡ Some x → p x ≡ true
-found_passes p [] x e = cc
-found_passes p (y ∷ ys) x e =
-    elim (cases_Bool (p y)) [
-      | inl passes ↦ (let same : y ≡ x = same_Some y x (rw passes at e) in rw (← same) passes)
-      | inr stops ↦ found_passes p ys x (rw stops at e)
-    ]
-
--- each reserved word
-abbrev keys : List Key
-keys =
-    key.Input ∷ key.Let ∷ key.Emit ∷ key.Over ∷ key.Every ∷ key.From ∷ key.If ∷ key.Then ∷ key.Else ∷ key.When ∷ key.Or ∷ key.And ∷ key.Not
-    ∷ key.TrueWord ∷ key.FalseWord ∷ key.IsNull ∷ key.IfNull ∷ key.Time ∷ key.Sum ∷ key.Avg ∷ key.Min ∷ key.Max ∷ key.Count ∷ key.First
-    ∷ key.Last ∷ key.Any ∷ key.All ∷ []
-
--- the first of them with this text
+-- the first reserved word with this text
 abbrev pub key_with : List ℕ → Option Key
 key_with bytes = find (λ k. bytes_eq (key_text k) bytes) keys
 
@@ -51,15 +37,8 @@ key_with-text key.FalseWord = refl
 key_with-text key.IsNull = refl
 key_with-text key.IfNull = refl
 key_with-text key.Time = refl
-key_with-text key.Sum = refl
-key_with-text key.Avg = refl
-key_with-text key.Min = refl
-key_with-text key.Max = refl
-key_with-text key.Count = refl
-key_with-text key.First = refl
-key_with-text key.Last = refl
-key_with-text key.Any = refl
-key_with-text key.All = refl
+key_with-text (key.Reducer r) =
+    elim r as (λ q. key_with (reducer_word q) ≡ Some (key.Reducer q)) [ reducer.Sum ↦ refl | _ ↦ refl ]
 
 pub same_key : (k j : Key) → key_text k ≡ key_text j → k ≡ j
 same_key k j e = same_Some k j (sym (key_with-text k) ∙ ap key_with e ∙ key_with-text j)

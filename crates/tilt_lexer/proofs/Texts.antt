@@ -5,6 +5,8 @@ use Rattle.std.specs.Char.{is_ascii_digit}
 use Rattle.std.proofs.lemmas.Bool.{and_parts, false≢true}
 use Rattle.std.proofs.lemmas.Bool.Decides.{nat_tests}
 use Rattle.std.proofs.lemmas.List.{get_or_append_left}
+use Rattle.tilt_base.specs.Reduce.{reducer_word}
+use Rattle.tilt_base.specs.declared.reducer.Reducer.TheVariants as reducer
 use Rattle.tilt_lexer.specs.declared.key.Key.{Key}
 use Rattle.tilt_lexer.specs.declared.key.Key.TheVariants as key
 use Rattle.tilt_lexer.specs.declared.mark.Mark.{Mark}
@@ -81,15 +83,7 @@ key_is_word key.FalseWord = refl
 key_is_word key.IsNull = refl
 key_is_word key.IfNull = refl
 key_is_word key.Time = refl
-key_is_word key.Sum = refl
-key_is_word key.Avg = refl
-key_is_word key.Min = refl
-key_is_word key.Max = refl
-key_is_word key.Count = refl
-key_is_word key.First = refl
-key_is_word key.Last = refl
-key_is_word key.Any = refl
-key_is_word key.All = refl
+key_is_word (key.Reducer r) = elim r as (λ q. IsWord (reducer_word q)) [ reducer.Sum ↦ refl | _ ↦ refl ]
 
 -- the text is that of a sign
 abbrev pub IsSign : List ℕ → Type 0

@@ -1,7 +1,9 @@
 -- Words, and which of them are reserved (our own rule). A byte is its ASCII code.
-use Rattle.std.specs.Prelude.{◌≡◌, ℕ, Bool, false, ◌&&◌, ◌||◌, ◌==◌, List, [], ◌∷◌, codes, Contains, IsTrue, ⊤}
+use Rattle.std.specs.Prelude.{◌≡◌, ℕ, Bool, false, ◌&&◌, ◌||◌, ◌==◌, List, [], ◌∷◌, ◌++◌, map, codes, Contains, IsTrue, ⊤}
 use Rattle.std.specs.Char.{is_ascii_alphabetic, is_ascii_digit}
 use Rattle.std.specs.List.{list_all}
+use Rattle.tilt_base.specs.Reduce.{reducer_word}
+use Rattle.tilt_base.specs.declared.reducer.TheConstants.{REDUCERS}
 use Rattle.tilt_lexer.specs.declared.key.Key.{Key}
 use Rattle.tilt_lexer.specs.declared.key.Key.TheVariants as key
 
@@ -42,15 +44,14 @@ key_text key.FalseWord = codes "false"
 key_text key.IsNull = codes "isnull"
 key_text key.IfNull = codes "ifnull"
 key_text key.Time = codes "t"
-key_text key.Sum = codes "sum"
-key_text key.Avg = codes "avg"
-key_text key.Min = codes "min"
-key_text key.Max = codes "max"
-key_text key.Count = codes "count"
-key_text key.First = codes "first"
-key_text key.Last = codes "last"
-key_text key.Any = codes "any"
-key_text key.All = codes "all"
+key_text (key.Reducer r) = reducer_word r
+
+-- each reserved word
+abbrev pub keys : List Key
+keys =
+    (key.Input ∷ key.Let ∷ key.Emit ∷ key.Over ∷ key.Every ∷ key.From ∷ key.If ∷
+    key.Then ∷ key.Else ∷ key.When ∷ key.Or ∷ key.And ∷ key.Not ∷ key.TrueWord ∷
+    key.FalseWord ∷ key.IsNull ∷ key.IfNull ∷ key.Time ∷ []) ++ map key.Reducer REDUCERS
 
 -- the bytes are the text of a reserved word
 abbrev pub IsReserved : List ℕ → Type 0

@@ -1,7 +1,11 @@
 // The reserved words.
 ghost use Rattle.std.specs.Prelude.{◌≡◌, ◌≢◌, ◌↔◌, IsTrue, MatchOption};
+ghost use Rattle.tilt_base.specs.Reduce.{reducer_word};
+ghost use Rattle.tilt_base.specs.declared.reducer.Reducer.{Reducer};
 ghost use Rattle.tilt_lexer.specs.declared.key.Key.{Key};
 ghost use Rattle.tilt_lexer.specs.Word.{key_text, IsReserved};
+
+use tilt_base::Reducer;
 
 /// A reserved word of a query.
 #[derive(Clone, Copy, Debug, PartialEq, Eq)]
@@ -42,28 +46,26 @@ pub enum Key {
     IfNull,
     /// `t`
     Time,
-    /// `sum`
-    Sum,
-    /// `avg`
-    Avg,
-    /// `min`
-    Min,
-    /// `max`
-    Max,
-    /// `count`
-    Count,
-    /// `first`
-    First,
-    /// `last`
-    Last,
-    /// `any`
-    Any,
-    /// `all`
-    All,
+    /// The word of a reducer: `sum`, `avg` and the like.
+    Reducer(Reducer),
 }
 
 // The reserved word with this text, or `None` if there is none.
+#[tactic(auto, using(tilt_base::proofs::Reducers::reducer_found, tilt_base::proofs::Reducers::no_reducer_found))]
 pub(crate) fn find_key(bytes: &[u8]) -> Option<Key>
+    ensures { MatchOption result
+        ((k : Key) → key_text k ≢ bytes.now)
+        (λ k. key_text k ≡ bytes.now) }
+{
+    match Reducer::read(bytes) {
+        Some(reducer) => Some(Key::Reducer(reducer)),
+        None => find_plain_key(bytes),
+    }
+}
+
+// The same, of bytes that aren't the word of a reducer.
+fn find_plain_key(bytes: &[u8]) -> Option<Key>
+    requires { (r : Reducer) → reducer_word r ≢ bytes.now }
     ensures { MatchOption result
         ((k : Key) → key_text k ≢ bytes.now)
         (λ k. key_text k ≡ bytes.now) }
@@ -87,15 +89,6 @@ pub(crate) fn find_key(bytes: &[u8]) -> Option<Key>
         b"isnull" => Some(Key::IsNull),
         b"ifnull" => Some(Key::IfNull),
         b"t" => Some(Key::Time),
-        b"sum" => Some(Key::Sum),
-        b"avg" => Some(Key::Avg),
-        b"min" => Some(Key::Min),
-        b"max" => Some(Key::Max),
-        b"count" => Some(Key::Count),
-        b"first" => Some(Key::First),
-        b"last" => Some(Key::Last),
-        b"any" => Some(Key::Any),
-        b"all" => Some(Key::All),
         _ => None,
     }
 }

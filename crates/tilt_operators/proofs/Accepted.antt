@@ -142,15 +142,9 @@ truth-type (Some value.Int) h = absurd (false≢true h)
 truth-type (Some value.Bool) h = refl
 
 reducer-type : (r : Reducer) → is_of_numbers r ≡ true → type_of_reducer r value.Int ≡ Some value.Int
-reducer-type reducer.Sum h = refl
-reducer-type reducer.Avg h = refl
-reducer-type reducer.Min h = refl
-reducer-type reducer.Max h = refl
-reducer-type reducer.Count h = refl
-reducer-type reducer.First h = refl
-reducer-type reducer.Last h = refl
 reducer-type reducer.Any h = absurd (false≢true h)
 reducer-type reducer.All h = absurd (false≢true h)
+reducer-type r h = refl
 
 -- an expression over known names, with its type and its windows
 record IsFine (names : List (List ℕ)) (e : ExprTree) (t : ValueType) : Type 0 where

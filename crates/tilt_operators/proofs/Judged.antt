@@ -13,7 +13,7 @@ use Rattle.tilt_lexer.specs.declared.token.Tok.{Tok}
 use Rattle.tilt_lexer.specs.declared.token.Tok.TheVariants.{Word, Number, Key as Reserved, Mark as Sign}
 use Rattle.tilt_syntax.proofs.Total.{begins_or_not, expr_or_none, names_same, tokens_same}
 use Rattle.tilt_syntax.proofs.Unique.{one_expr}
-use Rattle.tilt_syntax.specs.Grammar.{IsBound, reducer_key}
+use Rattle.tilt_syntax.specs.Grammar.{IsBound}
 use Rattle.tilt_syntax.specs.Query.{statements}
 use Rattle.tilt_syntax.specs.Tree.{ExprTree}
 use Rattle.tilt_types.specs.WellFormed.{is_stretch}
@@ -47,12 +47,12 @@ word_or_none (Reserved k ∷ vs) = inr (λ x ws e. cc)
 word_or_none (Sign m ∷ vs) = inr (λ x ws e. cc)
 
 reducer_or_none : (us : List Tok)
-    → ((r : Reducer) × (vs : List Tok) × (us ≡ Reserved (reducer_key r) ∷ vs)) ⊎ ((r : Reducer) (vs : List Tok) → us ≢ Reserved (reducer_key r) ∷ vs)
+    → ((r : Reducer) × (vs : List Tok) × (us ≡ Reserved (key.Reducer r) ∷ vs)) ⊎ ((r : Reducer) (vs : List Tok) → us ≢ Reserved (key.Reducer r) ∷ vs)
 reducer_or_none [] = inr (λ r vs e. cc)
 reducer_or_none (Reserved k ∷ vs) =
     elim (key_or_none k) [
       | inl is ↦ inl (is.0, vs, ap (λ (j : Key). Reserved j ∷ vs) (sym is.1))
-      | inr none ↦ inr (λ r ws e. (let same : reducer_key r ≡ k = cc in none r same))
+      | inr none ↦ inr (λ r ws e. (let same : key.Reducer r ≡ k = cc in none r same))
     ]
 reducer_or_none (Number n ∷ vs) = inr (λ r ws e. cc)
 reducer_or_none (Word x ∷ vs) = inr (λ r ws e. cc)

@@ -9,7 +9,7 @@ use Rattle.tilt_lexer.specs.declared.key.Key.TheVariants as key
 use Rattle.tilt_lexer.specs.declared.mark.Mark.TheVariants as mark
 use Rattle.tilt_lexer.specs.declared.token.Tok.{Tok}
 use Rattle.tilt_lexer.specs.declared.token.Tok.TheVariants.{Word, Number, Key as Reserved, Mark as Sign}
-use Rattle.tilt_syntax.specs.Grammar.{IsBound, reducer_key}
+use Rattle.tilt_syntax.specs.Grammar.{IsBound}
 use Rattle.tilt_lexer.specs.declared.token.Token.{Token}
 use Rattle.tilt_syntax.specs.Query.{kinds}
 use Rattle.tilt_syntax.proofs.Texts.{Keeps}
@@ -24,7 +24,7 @@ use Rattle.tilt_operators.specs.declared.operands.Operands.TheVariants.{Value, B
 use Rattle.tilt_operators.specs.declared.step.Step.{Step}
 use Rattle.tilt_operators.proofs.Spans.{last_emits, last_inside, one_has, opened, parted}
 use Rattle.tilt_operators.proofs.Trimmed.{trimmed_flow, trimmed_rejected}
-use Rattle.tilt_operators.proofs.Unique.{ended-inj, one_reducer, word_number}
+use Rattle.tilt_operators.proofs.Unique.{ended-inj, word_number}
 
 pub one_inside : (ts : List Tok) (a b : Span) → IsInside ts a → IsInside ts b → a ≡ b
 one_inside ts a b g h =
@@ -103,7 +103,7 @@ module _ (ts : List Tok) where
   no-shift none (Shift by) h = none by h.1
   no-shift none s h = absurd (omega (arith, ap word_number h.0))
 
-  no-window-by : ((r : Reducer) (width : ℤ) → ts ≡ Reserved (reducer_key r) ∷ Number width ∷ [] → is_of_numbers r ≡ true → pos 1 ≤ℤ width → ⊥)
+  no-window-by : ((r : Reducer) (width : ℤ) → ts ≡ Reserved (key.Reducer r) ∷ Number width ∷ [] → is_of_numbers r ≡ true → pos 1 ≤ℤ width → ⊥)
       → (s : StepTree) → IsStepOf (codes "window") ts s → ⊥
   unfolding word_number
   no-window-by none (Window r width) h = none r width h.1 h.2 h.3
@@ -115,27 +115,27 @@ module _ (ts : List Tok) where
   no-join-by none (Join x e) h = none x h.1 e h.2 h.3 h.4
   no-join-by none s h = absurd (omega (arith, ap word_number h.0))
 
-  pub no-reducer : ((r : Reducer) (us : List Tok) → ts ≢ Reserved (reducer_key r) ∷ us) → (s : StepTree) → IsStepOf (codes "window") ts s → ⊥
+  pub no-reducer : ((r : Reducer) (us : List Tok) → ts ≢ Reserved (key.Reducer r) ∷ us) → (s : StepTree) → IsStepOf (codes "window") ts s → ⊥
   no-reducer none = no-window-by (λ r width is numbers wide. none r (Number width ∷ []) is)
 
-  pub no-width : (r : Reducer) (us : List Tok) → ts ≡ Reserved (reducer_key r) ∷ us → ((n : ℤ) (vs : List Tok) → us ≢ Number n ∷ vs)
+  pub no-width : (r : Reducer) (us : List Tok) → ts ≡ Reserved (key.Reducer r) ∷ us → ((n : ℤ) (vs : List Tok) → us ≢ Number n ∷ vs)
       → (s : StepTree) → IsStepOf (codes "window") ts s → ⊥
   no-width r us is none = no-window-by (λ q width other numbers wide. (
-      let same : Reserved (reducer_key r) ∷ us ≡ Reserved (reducer_key q) ∷ Number width ∷ [] = sym is ∙ other in
+      let same : Reserved (key.Reducer r) ∷ us ≡ Reserved (key.Reducer q) ∷ Number width ∷ [] = sym is ∙ other in
       let tails : us ≡ Number width ∷ [] = cc in
       none width [] tails))
 
   -- what the tokens of a window are, where they begin so
-  pub window-of : (r q : Reducer) (us vs : List Tok) (n width : ℤ) → ts ≡ Reserved (reducer_key r) ∷ us → us ≡ Number n ∷ vs
-      → ts ≡ Reserved (reducer_key q) ∷ Number width ∷ [] → (r ≡ q) × (n ≡ width) × (vs ≡ [])
+  pub window-of : (r q : Reducer) (us vs : List Tok) (n width : ℤ) → ts ≡ Reserved (key.Reducer r) ∷ us → us ≡ Number n ∷ vs
+      → ts ≡ Reserved (key.Reducer q) ∷ Number width ∷ [] → (r ≡ q) × (n ≡ width) × (vs ≡ [])
   window-of r q us vs n width is then other =
-      let same : Reserved (reducer_key r) ∷ us ≡ Reserved (reducer_key q) ∷ Number width ∷ [] = sym is ∙ other in
-      let keys : reducer_key r ≡ reducer_key q = cc in
+      let same : Reserved (key.Reducer r) ∷ us ≡ Reserved (key.Reducer q) ∷ Number width ∷ [] = sym is ∙ other in
+      let one : r ≡ q = cc in
       let tails : us ≡ Number width ∷ [] = cc in
       let both : Number n ∷ vs ≡ Number width ∷ [] = sym then ∙ tails in
-      (one_reducer r q keys, cc, cc)
+      (one, cc, cc)
 
-  pub bad-window : (r : Reducer) (us vs : List Tok) (n : ℤ) → ts ≡ Reserved (reducer_key r) ∷ us → us ≡ Number n ∷ vs
+  pub bad-window : (r : Reducer) (us vs : List Tok) (n : ℤ) → ts ≡ Reserved (key.Reducer r) ∷ us → us ≡ Number n ∷ vs
       → (vs ≡ [] → is_of_numbers r ≡ true → pos 1 ≤ℤ n → ⊥) → (s : StepTree) → IsStepOf (codes "window") ts s → ⊥
   bad-window r us vs n is then none = no-window-by (λ q width other numbers wide. (
       let parts = window-of r q us vs n width is then other in
@@ -154,10 +154,10 @@ module _ (ts : List Tok) where
       let tails : us ≡ vs = cc in
       none e (rw names open_name) (rw tails over)))
 
-  pub is-window : (r : Reducer) (us vs : List Tok) (n : ℤ) → ts ≡ Reserved (reducer_key r) ∷ us → us ≡ Number n ∷ vs → vs ≡ []
+  pub is-window : (r : Reducer) (us vs : List Tok) (n : ℤ) → ts ≡ Reserved (key.Reducer r) ∷ us → us ≡ Number n ∷ vs → vs ≡ []
       → is_of_numbers r ≡ true → pos 1 ≤ℤ n → IsStepOf (codes "window") ts (Window r n)
   is-window r us vs n is then none numbers wide =
-      (refl, is ∙ ap (λ (ws : List Tok). Reserved (reducer_key r) ∷ ws) (then ∙ ap (λ (ws : List Tok). Number n ∷ ws) none), numbers, wide)
+      (refl, is ∙ ap (λ (ws : List Tok). Reserved (key.Reducer r) ∷ ws) (then ∙ ap (λ (ws : List Tok). Number n ∷ ws) none), numbers, wide)
 
   -- and no other word has any
   pub others-none : (word : List ℕ) → word ≢ codes "select" → word ≢ codes "where" → word ≢ codes "shift" → word ≢ codes "window"

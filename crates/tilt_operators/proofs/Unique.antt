@@ -2,7 +2,6 @@
 use Rattle.std.proofs.Common.{◌≡◌, ◌≢◌, ◌⊎◌, inl, inr, ℕ, ◌+◌, ◌*◌, ℤ, List, [], ◌∷◌, ◌++◌, length, get_or, Some, None, refl, sym, ap, ◌∙◌, subst}
 use Rattle.std.proofs.Common.{arith, length-append}
 use Rattle.tilt_base.specs.declared.reducer.Reducer.{Reducer}
-use Rattle.tilt_base.specs.declared.reducer.Reducer.TheVariants as reducer
 use Rattle.tilt_base.specs.declared.span.Span.{Span}
 use Rattle.tilt_lexer.proofs.Unique.{same_tokens, same_fault, tokens_or_fault}
 use Rattle.tilt_lexer.specs.Tokens.{AreTokens, IsFaultyAt}
@@ -14,9 +13,8 @@ use Rattle.tilt_lexer.specs.declared.mark.Mark.TheVariants as mark
 use Rattle.tilt_lexer.specs.declared.token.Tok.{Tok}
 use Rattle.tilt_lexer.specs.declared.token.Tok.TheVariants.{Word, Number, Key as Reserved, Mark as Sign}
 use Rattle.tilt_lexer.specs.declared.token.Token.{Token}
-use Rattle.tilt_syntax.proofs.Total.{tokens_same}
 use Rattle.tilt_syntax.proofs.Unique.{one_expr}
-use Rattle.tilt_syntax.specs.Grammar.{IsBound, from_zero, below_zero, IsExpr, IsSpan, over, reducer_key}
+use Rattle.tilt_syntax.specs.Grammar.{IsBound, from_zero, below_zero, IsExpr, IsSpan, over}
 use Rattle.tilt_syntax.specs.Query.{kinds, statements}
 use Rattle.tilt_operators.specs.Fault.{of_place}
 use Rattle.tilt_operators.specs.Flow.{StepTree, Select, Keep, Shift, Window, Join, FlowTree}
@@ -65,32 +63,10 @@ same_span (over {us = us} {s = s} {e = e} hs he) (over {us = vs} {s = t} {e = f}
     cc
 
 -- reducers
-of_key : Key → Reducer
-of_key key.Sum = reducer.Sum
-of_key key.Avg = reducer.Avg
-of_key key.Min = reducer.Min
-of_key key.Max = reducer.Max
-of_key key.Count = reducer.Count
-of_key key.First = reducer.First
-of_key key.Last = reducer.Last
-of_key key.Any = reducer.Any
-of_key k = reducer.All
-
-of_reducer : (r : Reducer) → of_key (reducer_key r) ≡ r
-unfolding of_key
-of_reducer reducer.Sum = refl
-of_reducer r = refl
-
 -- a reserved word is that of a reducer, or of none
-pub key_or_none : (k : Key) → ((r : Reducer) × (reducer_key r ≡ k)) ⊎ ((r : Reducer) → reducer_key r ≢ k)
-key_or_none k =
-    elim (tokens_same (Reserved (reducer_key (of_key k))) (Reserved k)) [
-      | inl same ↦ inl (of_key k, cc)
-      | inr other ↦ inr (λ r is. other (ap Reserved (ap reducer_key (sym (ap of_key is) ∙ of_reducer r) ∙ is)))
-    ]
-
-pub one_reducer : (q r : Reducer) → reducer_key q ≡ reducer_key r → q ≡ r
-one_reducer q r keys = sym (of_reducer q) ∙ ap of_key keys ∙ of_reducer r
+pub key_or_none : (k : Key) → ((r : Reducer) × (key.Reducer r ≡ k)) ⊎ ((r : Reducer) → key.Reducer r ≢ k)
+key_or_none (key.Reducer r) = inl (r, refl)
+key_or_none k = inr (λ r is. cc)
 
 module _ (word : List ℕ) (inside : List Tok) where
   one_step_of : (s t : StepTree) → IsStepOf word inside s → IsStepOf word inside t → s ≡ t
@@ -99,10 +75,9 @@ module _ (word : List ℕ) (inside : List Tok) where
   one_step_of (Keep d) (Keep e) g h = ap Keep (one_expr inside d e g.1.parsed h.1.parsed)
   one_step_of (Shift m) (Shift n) g h = ap Shift (one_bound g.1 h.1)
   one_step_of (Window q m) (Window r n) g h =
-      let same : Reserved (reducer_key q) ∷ Number m ∷ [] ≡ Reserved (reducer_key r) ∷ Number n ∷ [] = sym g.1 ∙ h.1 in
-      let keys : reducer_key q ≡ reducer_key r = cc in
+      let same : Reserved (key.Reducer q) ∷ Number m ∷ [] ≡ Reserved (key.Reducer r) ∷ Number n ∷ [] = sym g.1 ∙ h.1 in
       let widths : m ≡ n = cc in
-      let reducers : q ≡ r = one_reducer q r keys in
+      let reducers : q ≡ r = cc in
       cc
   one_step_of (Join x d) (Join y e) g h =
       let same : Word x ∷ g.1 ≡ Word y ∷ h.1 = sym g.2 ∙ h.2 in

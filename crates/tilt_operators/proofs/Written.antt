@@ -17,6 +17,9 @@ use Rattle.tilt_base.specs.declared.operator.Op1.TheVariants as op1
 use Rattle.tilt_base.specs.declared.operator.Op2.{Op2}
 use Rattle.tilt_base.specs.declared.operator.Op2.TheVariants as op2
 use Rattle.tilt_base.specs.declared.span.Span.{Span}
+use Rattle.tilt_base.specs.Reduce.{reducer_word}
+use Rattle.tilt_base.specs.declared.reducer.Reducer.{Reducer}
+use Rattle.tilt_base.specs.declared.reducer.Reducer.TheVariants as reducer
 use Rattle.tilt_lexer.specs.Tokens.{IsSound, greatest_number}
 use Rattle.tilt_lexer.specs.Word.{IsName, begins_word, goes_on_word, key_text}
 use Rattle.tilt_lexer.specs.declared.key.Key.{Key}
@@ -29,7 +32,7 @@ use Rattle.tilt_syntax.proofs.Shortest.{statement_shortest}
 use Rattle.tilt_syntax.proofs.Sounds.{EachSound, both, sound_parts, statement_sound, statements_sound}
 use Rattle.tilt_syntax.proofs.Written.{statement_is, statement_tokens}
 use Rattle.tilt_syntax.specs.Grammar.{Infix, infix_of, SpellsOffset, now, later, earlier, IsExpr, tighter, choice, between, negation, minus}
-use Rattle.tilt_syntax.specs.Grammar.{number, true_word, false_word, name, reading as reading_at, window, is_null, if_null, enclosed, reducer_key}
+use Rattle.tilt_syntax.specs.Grammar.{number, true_word, false_word, name, reading as reading_at, window, is_null, if_null, enclosed}
 use Rattle.tilt_syntax.specs.Grammar.{IsBound, from_zero, below_zero, no_span, no_grid, IsStatement, input, definition, emission}
 use Rattle.tilt_syntax.specs.Query.{AreGood, AreSound, IsQuery, statements}
 use Rattle.tilt_syntax.specs.Tree.{ExprTree, StatementTree, Input, Let, Emit}
@@ -54,8 +57,13 @@ decimal_goes_on n small =
     (λ n ds more h. rw (list_all-append goes_on_word ds ((48 + n % 10) ∷ []), h, digit_goes_on (n % 10) (omega arith)) refl)
     n small
 
+not_reducer : (ds : List ℕ) (r : Reducer) → reducer_word r ≡ codes "_" ++ ds → ⊥
+not_reducer ds reducer.Sum e = absurd (omega (arith, ap (λ (text : List ℕ). get_or text 0 0) e))
+not_reducer ds r e = absurd (omega (arith, ap (λ (text : List ℕ). get_or text 0 0) e))
+
 not_reserved : (ds : List ℕ) (k : Key) → key_text k ≡ codes "_" ++ ds → ⊥
 not_reserved ds key.Input e = absurd (omega (arith, ap (λ (text : List ℕ). get_or text 0 0) e))
+not_reserved ds (key.Reducer r) e = not_reducer ds r e
 not_reserved ds k e = absurd (omega (arith, ap (λ (text : List ℕ). get_or text 0 0) e))
 
 numbered-is_name : (first : List ℕ) (n : ℕ) → IsName first → n < 2 ^ 64 → IsName (source_name first n)
@@ -219,8 +227,8 @@ step_is x before ts (Shift by) named is h sound few =
     shift_is x before by named is within.0 within.1
 step_is x before ts (Window r width) named is h sound few =
     let inner : AreSound h.inside = inside-sound h.word h.inside (rw h.whole at sound) in
-    let numbers : AreSound (Reserved (reducer_key r) ∷ Number width ∷ []) = rw h.is.1 at inner in
-    let_is x (Reserved (reducer_key r) ∷ Sign mark.OpenParen ∷ Word before ∷ Sign mark.OpenBracket ∷ Reserved key.Time ∷ Sign mark.Minus
+    let numbers : AreSound (Reserved (key.Reducer r) ∷ Number width ∷ []) = rw h.is.1 at inner in
+    let_is x (Reserved (key.Reducer r) ∷ Sign mark.OpenParen ∷ Word before ∷ Sign mark.OpenBracket ∷ Reserved key.Time ∷ Sign mark.Minus
     ∷ Number width ∷ Sign mark.Colon ∷ Reserved key.Time ∷ Sign mark.CloseBracket ∷ Sign mark.CloseParen ∷ [])
     (step_expr before (Window r width)) (to_zero (window earlier now)) named
     (tt, (tt, (is, (tt, (tt, (tt, (numbers.1.0, (tt, (tt, (tt, (tt, tt))))))))))) (omega arith)

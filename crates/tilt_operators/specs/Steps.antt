@@ -16,7 +16,7 @@ use Rattle.tilt_lexer.specs.declared.token.Tok.{Tok}
 use Rattle.tilt_lexer.specs.declared.token.Tok.TheVariants.{Word, Number, Key as Reserved, Mark as Sign}
 use Rattle.tilt_lexer.specs.declared.token.Token.{Token}
 use Rattle.tilt_lexer.specs.declared.fault.LexFault.TheVariants as lexical
-use Rattle.tilt_syntax.specs.Grammar.{IsExpr, IsBound, IsSpan, reducer_key}
+use Rattle.tilt_syntax.specs.Grammar.{IsExpr, IsBound, IsSpan}
 use Rattle.tilt_syntax.specs.Query.{AreSound, kinds, statements}
 use Rattle.tilt_syntax.specs.Tree.{ExprTree, Num, Truth, Read, Reduce, Input}
 use Rattle.tilt_types.specs.Types.{type_of}
@@ -69,7 +69,7 @@ IsStepOf word inside (Select e) = (word ≡ codes "select") × IsExprOver Value 
 IsStepOf word inside (Keep e) = (word ≡ codes "where") × IsExprOver Value inside e
 IsStepOf word inside (Shift by) = (word ≡ codes "shift") × IsBound inside by
 IsStepOf word inside (Window r width) =
-    (word ≡ codes "window") × (inside ≡ Reserved (reducer_key r) ∷ Number width ∷ []) × (is_of_numbers r ≡ true) × (pos 1 ≤ℤ width)
+    (word ≡ codes "window") × (inside ≡ Reserved (key.Reducer r) ∷ Number width ∷ []) × (is_of_numbers r ≡ true) × (pos 1 ≤ℤ width)
 IsStepOf word inside (Join name e) =
     (word ≡ codes "join") × (ts : List Tok) × (inside ≡ Word name ∷ ts) × (is_kept_back name ≡ false) × IsExprOver Both ts e
 

@@ -5,12 +5,12 @@ ghost use Rattle.tilt_base.specs.declared.span.Span.{Span};
 ghost use Rattle.tilt_lexer.specs.declared.token.Tok.{Tok};
 ghost use Rattle.tilt_operators.specs.Parts.{HasBound, IsInside};
 ghost use Rattle.tilt_operators.specs.Steps.{is_kept_back, is_of_numbers};
-ghost use Rattle.tilt_syntax.specs.Grammar.{IsBound, reducer_key};
+ghost use Rattle.tilt_syntax.specs.Grammar.{IsBound};
 ghost use Rattle.tilt_syntax.specs.Query.{kinds, AreSound};
 
 use tilt_base::{Reducer, Span};
-use tilt_lexer::{Mark, Name, Tok, Token};
-use tilt_syntax::{after_mark, first_number, is_end, is_mark, reducer_of};
+use tilt_lexer::{Key, Mark, Name, Tok, Token};
+use tilt_syntax::{after_mark, first_number, is_end, is_mark};
 
 // What is before the `;`, if the tokens end with it.
 pub(crate) fn before_end(tokens: &[Token]) -> Option<&[Token]>
@@ -75,15 +75,15 @@ pub(crate) fn inside_span(tokens: &[Token]) -> Option<Span>
 // The reducer with which the tokens begin, and what follows it.
 pub(crate) fn front_reducer(tokens: &[Token]) -> Option<(Reducer, &[Token])>
     ensures front { MatchOption result
-        ((r : Reducer) (ts : List Tok) → kinds tokens.now ≢ Tok.Key (reducer_key r) ∷ ts)
-        (λ found. kinds tokens.now ≡ Tok.Key (reducer_key found.0) ∷ kinds found.1.now) }
+        ((r : Reducer) (ts : List Tok) → kinds tokens.now ≢ Tok.Key (Key.Reducer r) ∷ ts)
+        (λ found. kinds tokens.now ≡ Tok.Key (Key.Reducer found.0) ∷ kinds found.1.now) }
     ensures sound { AreSound (kinds tokens.now) → IfSome result (λ found. AreSound (kinds found.1.now)) }
 {
     let [first, rest @ ..] = tokens else {
         return None;
     };
     match &first.kind {
-        Tok::Key(key) => Some((reducer_of(*key)?, rest)),
+        Tok::Key(Key::Reducer(reducer)) => Some((*reducer, rest)),
         _ => None,
     }
 }
@@ -94,13 +94,7 @@ pub(crate) fn is_of_numbers(reducer: Reducer) -> bool
 {
     match reducer {
         Reducer::Any | Reducer::All => false,
-        Reducer::Sum
-        | Reducer::Avg
-        | Reducer::Min
-        | Reducer::Max
-        | Reducer::Count
-        | Reducer::First
-        | Reducer::Last => true,
+        _ => true,
     }
 }
 

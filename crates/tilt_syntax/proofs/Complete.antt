@@ -3,14 +3,13 @@ use Rattle.std.proofs.Common.{◌≡◌, ◌≢◌, ◌<◌, ◌≤◌, ℕ, suc
 use Rattle.tilt_base.specs.Expression.{Leaf, Two}
 use Rattle.tilt_base.specs.declared.operator.Op2.{Op2}
 use Rattle.tilt_base.specs.declared.reducer.Reducer.{Reducer}
-use Rattle.tilt_base.specs.declared.reducer.Reducer.TheVariants as reducer
 use Rattle.tilt_lexer.specs.declared.key.Key.TheVariants as key
 use Rattle.tilt_lexer.specs.declared.mark.Mark.TheVariants as mark
 use Rattle.tilt_lexer.specs.declared.token.Tok.{Tok}
 use Rattle.tilt_lexer.specs.declared.token.Tok.TheVariants.{Word, Key as Reserved, Mark as Sign}
 use Rattle.tilt_syntax.specs.Descent.{Plan, Test, Found, Comes, done, met, missed, between, behind_all, found}
 use Rattle.tilt_syntax.specs.Descent.{Reading, GoingOn, plan_of, going_plan, behind_operand, offset_plan, window_plan, word_plan, give, answer}
-use Rattle.tilt_syntax.specs.Grammar.{Infix, reducer_key, SpellsOffset, now, later, earlier, IsExpr, tighter, choice, between as joined, negation, minus}
+use Rattle.tilt_syntax.specs.Grammar.{Infix, SpellsOffset, now, later, earlier, IsExpr, tighter, choice, between as joined, negation, minus}
 use Rattle.tilt_syntax.specs.Grammar.{number, true_word, false_word, name, reading, window, is_null, if_null, enclosed}
 use Rattle.tilt_syntax.specs.Levels.{level_number, operator_of, tighter as next}
 use Rattle.tilt_syntax.specs.Tree.{Reduce, ExprTree}
@@ -112,17 +111,6 @@ begins-other n t ts a b c = record {
   no_minus = λ e. absurd (c e);
 }
 
-key-begins : (n : ℕ) (r : Reducer) (ts : List Tok) → Begins n (Reserved (reducer_key r) ∷ ts)
-key-begins n reducer.Sum ts = begins-other n _ ts (λ e. cc) (λ e. cc) (λ e. cc)
-key-begins n reducer.Avg ts = begins-other n _ ts (λ e. cc) (λ e. cc) (λ e. cc)
-key-begins n reducer.Min ts = begins-other n _ ts (λ e. cc) (λ e. cc) (λ e. cc)
-key-begins n reducer.Max ts = begins-other n _ ts (λ e. cc) (λ e. cc) (λ e. cc)
-key-begins n reducer.Count ts = begins-other n _ ts (λ e. cc) (λ e. cc) (λ e. cc)
-key-begins n reducer.First ts = begins-other n _ ts (λ e. cc) (λ e. cc) (λ e. cc)
-key-begins n reducer.Last ts = begins-other n _ ts (λ e. cc) (λ e. cc) (λ e. cc)
-key-begins n reducer.Any ts = begins-other n _ ts (λ e. cc) (λ e. cc) (λ e. cc)
-key-begins n reducer.All ts = begins-other n _ ts (λ e. cc) (λ e. cc) (λ e. cc)
-
 level-bounded : (level : Level) → level_number level ≤ 9
 level-bounded Choice = lit≤ tt
 level-bounded When = lit≤ tt
@@ -174,7 +162,7 @@ begins n ts e true_word more = begins-other n _ _ (λ e. cc) (λ e. cc) (λ e. c
 begins n ts e false_word more = begins-other n _ _ (λ e. cc) (λ e. cc) (λ e. cc)
 begins n ts e name more = begins-other n _ _ (λ e. cc) (λ e. cc) (λ e. cc)
 begins n ts e (reading h) more = begins-other n _ _ (λ e. cc) (λ e. cc) (λ e. cc)
-begins n ts e (window {r = r} l h) more = key-begins n r _
+begins n ts e (window l h) more = begins-other n _ _ (λ e. cc) (λ e. cc) (λ e. cc)
 begins n ts e (is_null h) more = begins-other n _ _ (λ e. cc) (λ e. cc) (λ e. cc)
 begins n ts e (if_null h k) more = begins-other n _ _ (λ e. cc) (λ e. cc) (λ e. cc)
 begins n ts e (enclosed h) more = begins-other n _ _ (λ e. cc) (λ e. cc) (λ e. cc)
@@ -256,19 +244,6 @@ window-comes reducer x ts us l h ol oh rest r k =
     offset-comes ts l ol _ _ r (λ us e. cc) (λ us e. cc) (met refl (
     rw (append_assoc us (Sign mark.CloseBracket ∷ Sign mark.CloseParen ∷ []) rest) (
     offset-comes us h oh _ _ r (λ us e. cc) (λ us e. cc) (met refl (met refl k))))))))
-
--- a window follows a reducer
-window-word : (reducer : Reducer) (ts : List Tok) (r : Option Found) → Comes (window_plan reducer ts) r
-    → Comes (word_plan (reducer_key reducer) ts) r
-window-word reducer.Sum ts r h = h
-window-word reducer.Avg ts r h = h
-window-word reducer.Min ts r h = h
-window-word reducer.Max ts r h = h
-window-word reducer.Count ts r h = h
-window-word reducer.First ts r h = h
-window-word reducer.Last ts r h = h
-window-word reducer.Any ts r h = h
-window-word reducer.All ts r h = h
 
 -- in a chain an operator is gone on with
 chained : (level : Level) → IsChain level → (e : ExprTree) (ts : List Tok) (r : Option Found) → Comes (going_plan level e ts) r
@@ -387,7 +362,7 @@ complete level n front e (reading {ts = ts} {d = d} h) same =
     offset-comes ts d h _ _ r (λ us e. cc) (λ us e. cc) (met refl k)))
 complete level n front e (window {r = reducer} {x = x} {ts = ts} {us = us} {l = l} {h = h} ol oh) same =
     let at : level ≡ Atom = same_level level Atom same in
-    rw at (λ rest r s k. window-word reducer _ r (window-comes reducer x ts us l h ol oh rest r k))
+    rw at (λ rest r s k. window-comes reducer x ts us l h ol oh rest r k)
 complete level n front e (is_null {ts = ts} {a = a} h) same =
     let at : level ≡ Atom = same_level level Atom same in
     rw at (λ rest r s k. met-append _ ts (Sign mark.CloseParen ∷ []) rest (

@@ -3,7 +3,6 @@ use Rattle.std.proofs.Common.{◌≡◌, ◌≢◌, ◌<◌, ◌≤◌, ◌-◌,
 use Rattle.std.proofs.lemmas.Grind.{common_steps}
 use Rattle.tilt_base.specs.declared.operator.Op2.{Op2}
 use Rattle.tilt_base.specs.declared.reducer.Reducer.{Reducer}
-use Rattle.tilt_base.specs.declared.reducer.Reducer.TheVariants as reducer
 use Rattle.tilt_lexer.specs.declared.key.Key.{Key}
 use Rattle.tilt_lexer.specs.declared.key.Key.TheVariants as key
 use Rattle.tilt_lexer.specs.declared.token.Tok.{Tok}
@@ -11,7 +10,6 @@ use Rattle.tilt_lexer.specs.declared.token.Tok.TheVariants.{Word}
 use Rattle.tilt_lexer.specs.declared.token.Token.{Token}
 use Rattle.tilt_syntax.specs.Descent.{Plan, Test, Between, Ask, Found, Task, GoingOn, Comes, done, met, missed, between, behind_all, found, none}
 use Rattle.tilt_syntax.specs.Descent.{answer, give, nothing, name_plan, atom_plan, word_plan, behind_operand, plan_of}
-use Rattle.tilt_syntax.specs.Grammar.{reducer_key}
 use Rattle.tilt_syntax.specs.Levels.{operator_of}
 use Rattle.tilt_syntax.specs.Query.{kinds}
 use Rattle.tilt_syntax.specs.Rest.{IsRest, Finds, FindsExpr, HasPart}
@@ -135,20 +133,12 @@ no-atom (t ∷ ts) h = absurd (omega arith)
 
 -- a reserved word that begins no atom
 pub no-word : (k : Key) (ts : List Tok) → k ≢ key.TrueWord → k ≢ key.FalseWord → k ≢ key.IsNull → k ≢ key.IfNull
-    → ((r : Reducer) → reducer_key r ≢ k) → Finds (word_plan k ts) ts None
+    → ((r : Reducer) → k ≢ key.Reducer r) → Finds (word_plan k ts) ts None
 no-word key.TrueWord ts a b c d e = absurd (a refl)
 no-word key.FalseWord ts a b c d e = absurd (b refl)
 no-word key.IsNull ts a b c d e = absurd (c refl)
 no-word key.IfNull ts a b c d e = absurd (d refl)
-no-word key.Sum ts a b c d e = absurd (e reducer.Sum refl)
-no-word key.Avg ts a b c d e = absurd (e reducer.Avg refl)
-no-word key.Min ts a b c d e = absurd (e reducer.Min refl)
-no-word key.Max ts a b c d e = absurd (e reducer.Max refl)
-no-word key.Count ts a b c d e = absurd (e reducer.Count refl)
-no-word key.First ts a b c d e = absurd (e reducer.First refl)
-no-word key.Last ts a b c d e = absurd (e reducer.Last refl)
-no-word key.Any ts a b c d e = absurd (e reducer.Any refl)
-no-word key.All ts a b c d e = absurd (e reducer.All refl)
+no-word (key.Reducer r) ts a b c d e = absurd (e r refl)
 no-word k ts a b c d e = gives_nothing
 
 -- what isn't a comparison is gone on with

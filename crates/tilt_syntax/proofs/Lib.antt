@@ -8,7 +8,6 @@ pub mod Keeping
 pub mod Law
 pub mod Operators
 pub mod Parsing
-pub mod Reducers
 pub mod Refused
 pub mod Shortest
 pub mod Sound

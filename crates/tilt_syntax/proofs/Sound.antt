@@ -4,7 +4,6 @@ use Rattle.tilt_base.specs.Expression.{One, Two}
 use Rattle.tilt_base.specs.declared.operator.Op1.TheVariants as op1
 use Rattle.tilt_base.specs.declared.operator.Op2.{Op2}
 use Rattle.tilt_base.specs.declared.reducer.Reducer.{Reducer}
-use Rattle.tilt_base.specs.declared.reducer.Reducer.TheVariants as reducer
 use Rattle.tilt_lexer.specs.declared.key.Key.{Key}
 use Rattle.tilt_lexer.specs.declared.key.Key.TheVariants as key
 use Rattle.tilt_lexer.specs.declared.mark.Mark.TheVariants as mark
@@ -13,7 +12,7 @@ use Rattle.tilt_lexer.specs.declared.token.Tok.TheVariants.{Word, Number, Key as
 use Rattle.tilt_syntax.specs.Descent.{Plan, Done, Test, Between, Ask, Found, Task, Comes, done, met, missed, between, behind_all, found, none}
 use Rattle.tilt_syntax.specs.Descent.{Reading, GoingOn, plan_of, going_plan, chain_plan, behind_operand}
 use Rattle.tilt_syntax.specs.Descent.{offset_plan, number_plan, name_plan, window_plan, reading_plan, enclosed_plan, word_plan, atom_plan, give}
-use Rattle.tilt_syntax.specs.Grammar.{Infix, infix_of, reducer_key, SpellsOffset, now, later, earlier, IsExpr, tighter, choice, between as joined, negation, minus}
+use Rattle.tilt_syntax.specs.Grammar.{Infix, infix_of, SpellsOffset, now, later, earlier, IsExpr, tighter, choice, between as joined, negation, minus}
 use Rattle.tilt_syntax.specs.Grammar.{number, true_word, false_word, name, reading, window, is_null, if_null, enclosed}
 use Rattle.tilt_syntax.specs.Levels.{level_number, operator_of, tighter as next}
 use Rattle.tilt_syntax.specs.Tree.{ExprTree}
@@ -228,14 +227,14 @@ reading-keeps x ts = (
 )
 
 -- what follows a reducer
-window-keeps : (r : Reducer) (ts : List Tok) → Keeps (window_plan r ts) (IsFront 9 (Reserved (reducer_key r) ∷ ts))
+window-keeps : (r : Reducer) (ts : List Tok) → Keeps (window_plan r ts) (IsFront 9 (Reserved (key.Reducer r) ∷ ts))
 window-keeps r ts = (
   (λ us paren_at. name-keeps _ us _ (λ x vs name_at. (
     (λ ws open_at. offset-keeps _ ws _ (λ l front xs from_at from. (
       (λ ys colon_at. offset-keeps _ ys _ (λ h back zs to_at to. (
         (λ qs close_at. (
           (λ rs end_at. record {
-            front = Reserved (reducer_key r) ∷ Sign mark.OpenParen ∷ Word x ∷ Sign mark.OpenBracket
+            front = Reserved (key.Reducer r) ∷ Sign mark.OpenParen ∷ Word x ∷ Sign mark.OpenBracket
                 ∷ (front ++ (Sign mark.Colon ∷ (back ++ (Sign mark.CloseBracket ∷ Sign mark.CloseParen ∷ []))));
             split = rw (paren_at, name_at, open_at, from_at, colon_at, to_at, close_at, end_at) (simp append_assoc);
             is = window from to;
@@ -286,15 +285,7 @@ word-keeps key.IsNull ts =
       is = is_null h;
     })
 word-keeps key.IfNull ts = pair-keeps ts
-word-keeps key.Sum ts = window-keeps reducer.Sum ts
-word-keeps key.Avg ts = window-keeps reducer.Avg ts
-word-keeps key.Min ts = window-keeps reducer.Min ts
-word-keeps key.Max ts = window-keeps reducer.Max ts
-word-keeps key.Count ts = window-keeps reducer.Count ts
-word-keeps key.First ts = window-keeps reducer.First ts
-word-keeps key.Last ts = window-keeps reducer.Last ts
-word-keeps key.Any ts = window-keeps reducer.Any ts
-word-keeps key.All ts = window-keeps reducer.All ts
+word-keeps (key.Reducer r) ts = window-keeps r ts
 word-keeps k ts = tt
 
 atom-keeps : (ts : List Tok) → Keeps (atom_plan ts) (IsFront 9 ts)

@@ -9,7 +9,7 @@ use Rattle.tilt_lexer.specs.declared.key.Key.TheVariants as key
 use Rattle.tilt_lexer.specs.declared.mark.Mark.TheVariants as mark
 use Rattle.tilt_lexer.specs.declared.token.Tok.{Tok}
 use Rattle.tilt_lexer.specs.declared.token.Tok.TheVariants.{Word, Number, Key as Reserved, Mark as Sign}
-use Rattle.tilt_syntax.specs.Grammar.{Infix, infix_of, reducer_key}
+use Rattle.tilt_syntax.specs.Grammar.{Infix, infix_of}
 use Rattle.tilt_syntax.specs.Printing.{level_of, in_place, offset_text, reading_text, atom_text}
 use Rattle.tilt_syntax.specs.Printing.{sign_text, operands_text, expr_text, span_text, domain_text, from_text, grid_text, statement_text, query_text}
 use Rattle.tilt_syntax.specs.Tree.{Atom, Num, Truth, Read, Reduce, ExprTree, StatementTree, Input, Let, Emit}
@@ -81,7 +81,7 @@ atom_spelt (Reduce r x from to) = record {
       let behind = token (Sign mark.Colon) refl ((offset_spelt to).go_on (record { closed = refl; spelt = end })) in
       let window = (offset_spelt from).go_on (record { closed = refl; spelt = behind }) in
       simp append_assoc
-      (token (Reserved (reducer_key r)) refl (token (Sign mark.OpenParen) refl (token (Word x) refl (token (Sign mark.OpenBracket) refl window))));
+      (token (Reserved (key.Reducer r)) refl (token (Sign mark.OpenParen) refl (token (Word x) refl (token (Sign mark.OpenBracket) refl window))));
 }
 
 operands_spelt : (i : Option Infix) (l m : ℕ) (a b : List ℕ) (ts us : List Tok) → Spelt a ts → Spelt b us

@@ -9,7 +9,6 @@ use Rattle.tilt_base.specs.declared.operator.Op1.TheVariants as op1
 use Rattle.tilt_base.specs.declared.operator.Op2.{Op2}
 use Rattle.tilt_base.specs.declared.operator.Op2.TheVariants as op2
 use Rattle.tilt_base.specs.declared.reducer.Reducer.{Reducer}
-use Rattle.tilt_base.specs.declared.reducer.Reducer.TheVariants as reducer
 use Rattle.tilt_base.specs.declared.span.Span.{Span}
 use Rattle.tilt_lexer.specs.Tokens.{mark_text}
 use Rattle.tilt_lexer.specs.Word.{key_text}
@@ -215,15 +214,7 @@ pair-falls n ts behind le h = (
 word-falls : (n : ℕ) (k : Key) (ts : List Tok) → 11 * length ts ≤ n → Falls n (word_plan k ts)
 word-falls n key.IsNull ts le = enclosed-falls n ts (λ e us. give (One op1.IsNull e) us) le (λ e us. tt)
 word-falls n key.IfNull ts le = pair-falls n ts (λ a b us. give (Two op2.IfNull a b) us) le (λ a b us. tt)
-word-falls n key.Sum ts le = window-falls n reducer.Sum ts
-word-falls n key.Avg ts le = window-falls n reducer.Avg ts
-word-falls n key.Min ts le = window-falls n reducer.Min ts
-word-falls n key.Max ts le = window-falls n reducer.Max ts
-word-falls n key.Count ts le = window-falls n reducer.Count ts
-word-falls n key.First ts le = window-falls n reducer.First ts
-word-falls n key.Last ts le = window-falls n reducer.Last ts
-word-falls n key.Any ts le = window-falls n reducer.Any ts
-word-falls n key.All ts le = window-falls n reducer.All ts
+word-falls n (key.Reducer r) ts le = window-falls n r ts
 word-falls n k ts le = tt
 
 atom-falls : (ts : List Tok) → Falls (11 * length ts + 1) (atom_plan ts)

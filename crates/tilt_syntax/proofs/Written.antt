@@ -10,7 +10,7 @@ use Rattle.tilt_lexer.specs.declared.key.Key.TheVariants as key
 use Rattle.tilt_lexer.specs.declared.mark.Mark.TheVariants as mark
 use Rattle.tilt_lexer.specs.declared.token.Tok.{Tok}
 use Rattle.tilt_lexer.specs.declared.token.Tok.TheVariants.{Word, Number, Key as Reserved, Mark as Sign}
-use Rattle.tilt_syntax.specs.Grammar.{Infix, infix_of, reducer_key, SpellsOffset, now, later, earlier, IsExpr, tighter, choice, between, negation, minus}
+use Rattle.tilt_syntax.specs.Grammar.{Infix, infix_of, SpellsOffset, now, later, earlier, IsExpr, tighter, choice, between, negation, minus}
 use Rattle.tilt_syntax.specs.Grammar.{number, true_word, false_word, name, reading, window, is_null, if_null, enclosed}
 use Rattle.tilt_syntax.specs.Grammar.{IsBound, from_zero, below_zero, IsSpan, over}
 use Rattle.tilt_syntax.specs.Grammar.{MayBeSpan, no_span, some_span, MayBeGrid, no_grid, on_multiples, with_offset, IsStatement, input, definition, emission}
@@ -38,7 +38,7 @@ atom_tokens (Truth true) = Reserved key.TrueWord ∷ []
 atom_tokens (Truth false) = Reserved key.FalseWord ∷ []
 atom_tokens (Read x offset) = reading_tokens x offset
 atom_tokens (Reduce r x from to) =
-    Reserved (reducer_key r) ∷ Sign mark.OpenParen ∷ Word x ∷ Sign mark.OpenBracket
+    Reserved (key.Reducer r) ∷ Sign mark.OpenParen ∷ Word x ∷ Sign mark.OpenBracket
     ∷ (offset_tokens from ++ (Sign mark.Colon ∷ (offset_tokens to ++ (Sign mark.CloseBracket ∷ Sign mark.CloseParen ∷ []))))
 
 abbrev pub operands_tokens : Option Infix → ℕ → List Tok → ℕ → List Tok → List Tok

@@ -5,7 +5,6 @@ use Rattle.tilt_base.specs.declared.operator.Op1.TheVariants as op1
 use Rattle.tilt_base.specs.declared.operator.Op2.{Op2}
 use Rattle.tilt_base.specs.declared.operator.Op2.TheVariants as op2
 use Rattle.tilt_base.specs.declared.reducer.Reducer.{Reducer}
-use Rattle.tilt_base.specs.declared.reducer.Reducer.TheVariants as reducer
 use Rattle.tilt_lexer.specs.declared.key.Key.{Key}
 use Rattle.tilt_lexer.specs.declared.key.Key.TheVariants as key
 use Rattle.tilt_lexer.specs.declared.mark.Mark.TheVariants as mark
@@ -99,15 +98,7 @@ word_plan key.TrueWord ts = give (Leaf (Truth true)) ts
 word_plan key.FalseWord ts = give (Leaf (Truth false)) ts
 word_plan key.IsNull ts = enclosed_plan ts (λ e. give (One op1.IsNull e))
 word_plan key.IfNull ts = pair_plan ts (λ a b. give (Two op2.IfNull a b))
-word_plan key.Sum ts = window_plan reducer.Sum ts
-word_plan key.Avg ts = window_plan reducer.Avg ts
-word_plan key.Min ts = window_plan reducer.Min ts
-word_plan key.Max ts = window_plan reducer.Max ts
-word_plan key.Count ts = window_plan reducer.Count ts
-word_plan key.First ts = window_plan reducer.First ts
-word_plan key.Last ts = window_plan reducer.Last ts
-word_plan key.Any ts = window_plan reducer.Any ts
-word_plan key.All ts = window_plan reducer.All ts
+word_plan (key.Reducer r) ts = window_plan r ts
 word_plan k ts = nothing
 
 -- what needs no parentheses anywhere

@@ -6,8 +6,6 @@ use Rattle.tilt_base.specs.declared.operator.Op1.TheVariants as op1
 use Rattle.tilt_base.specs.declared.operator.Op2.{Op2}
 use Rattle.tilt_base.specs.declared.operator.Op2.TheVariants as op2
 use Rattle.tilt_base.specs.declared.reducer.Reducer.{Reducer}
-use Rattle.tilt_base.specs.declared.reducer.Reducer.TheVariants as reducer
-use Rattle.tilt_lexer.specs.declared.key.Key.{Key}
 use Rattle.tilt_lexer.specs.declared.key.Key.TheVariants as key
 use Rattle.tilt_lexer.specs.declared.mark.Mark.TheVariants as mark
 use Rattle.tilt_lexer.specs.declared.token.Tok.{Tok}
@@ -40,18 +38,6 @@ infix_of op2.Mul = Some (record { sign = Sign mark.Star; level = 7; left = 7; ri
 infix_of op2.Div = Some (record { sign = Sign mark.Slash; level = 7; left = 7; right = 8 })
 infix_of op2.Rem = Some (record { sign = Sign mark.Percent; level = 7; left = 7; right = 8 })
 infix_of op2.IfNull = None
-
--- the reserved word of a reducer
-abbrev pub reducer_key : Reducer → Key
-reducer_key reducer.Sum = key.Sum
-reducer_key reducer.Avg = key.Avg
-reducer_key reducer.Min = key.Min
-reducer_key reducer.Max = key.Max
-reducer_key reducer.Count = key.Count
-reducer_key reducer.First = key.First
-reducer_key reducer.Last = key.Last
-reducer_key reducer.Any = key.Any
-reducer_key reducer.All = key.All
 
 -- the tokens spell an offset from the tick: `t`, `t + n` or `t - n`
 pub data SpellsOffset : List Tok → ℤ → Type 0 where
@@ -86,7 +72,7 @@ pub data IsExpr : ℕ → List Tok → ExprTree → Type 0 where
       → IsExpr 9 (Word x ∷ Sign mark.OpenBracket ∷ (ts ++ (Sign mark.CloseBracket ∷ []))) (Leaf (Read x d))
   -- `sum(x[t-m : t+n])`
   window : {r : Reducer} {x : List ℕ} {ts us : List Tok} {l h : ℤ} → SpellsOffset ts l → SpellsOffset us h
-      → IsExpr 9 (Reserved (reducer_key r) ∷ Sign mark.OpenParen ∷ Word x ∷ Sign mark.OpenBracket
+      → IsExpr 9 (Reserved (key.Reducer r) ∷ Sign mark.OpenParen ∷ Word x ∷ Sign mark.OpenBracket
       ∷ (ts ++ (Sign mark.Colon ∷ (us ++ (Sign mark.CloseBracket ∷ Sign mark.CloseParen ∷ []))))) (Leaf (Reduce r x l h))
   -- `isnull(a)`
   is_null : {ts : List Tok} {a : ExprTree} → IsExpr 0 ts a

@@ -3,13 +3,14 @@ use Rattle.std.specs.Prelude.{◌≡◌, ◌≤◌, ℕ, ℤ, negsuc, pos, suc, 
 use Rattle.std.specs.Prelude.{Option, Some, None, codes, nat_lt, if◌then◌else◌, flat_map, ⊤}
 use Rattle.std.specs.Fmt.{signed_decimal}
 use Rattle.tilt_base.specs.Expression.{Leaf, One, Two, If}
+use Rattle.tilt_base.specs.Reduce.{reducer_word}
 use Rattle.tilt_base.specs.declared.operator.Op1.TheVariants as op1
 use Rattle.tilt_lexer.specs.Tokens.{AreTokens, mark_text}
 use Rattle.tilt_lexer.specs.Word.{key_text}
 use Rattle.tilt_lexer.specs.declared.token.Tok.{Tok}
 use Rattle.tilt_lexer.specs.declared.token.Tok.TheVariants as tok
 use Rattle.tilt_lexer.specs.declared.token.Token.{Token}
-use Rattle.tilt_syntax.specs.Grammar.{Infix, infix_of, reducer_key, IsStatement}
+use Rattle.tilt_syntax.specs.Grammar.{Infix, infix_of, IsStatement}
 use Rattle.tilt_syntax.specs.Query.{kinds, AreSound, statements, IsQueryOf}
 use Rattle.tilt_syntax.specs.Tree.{Atom, Num, Truth, Read, Reduce, ExprTree, StatementTree, Input, Let, Emit}
 use Rattle.tilt_base.specs.declared.span.Span.{Span}
@@ -51,7 +52,7 @@ atom_text (Truth true) = codes "true"
 atom_text (Truth false) = codes "false"
 atom_text (Read x offset) = reading_text x offset
 atom_text (Reduce r x from to) =
-    key_text (reducer_key r) ++ codes "(" ++ x ++ codes "[" ++ offset_text from ++ codes ":" ++ offset_text to ++ codes "])"
+    reducer_word r ++ codes "(" ++ x ++ codes "[" ++ offset_text from ++ codes ":" ++ offset_text to ++ codes "])"
 
 -- the text of a sign or a reserved word between operands
 abbrev pub sign_text : Tok → List ℕ

@@ -1,9 +1,8 @@
 // What needs no parentheses and has no expression in it: readings and windows.
-ghost use Rattle.std.specs.Prelude.{◌≡◌, ◌≢◌, IfOk, MatchOption};
+ghost use Rattle.std.specs.Prelude.{IfOk, MatchOption};
 ghost use Rattle.tilt_base.specs.Expression.{Leaf};
 ghost use Rattle.tilt_base.specs.declared.reducer.Reducer.{Reducer};
 ghost use Rattle.tilt_syntax.specs.Descent.{offset_plan, reading_plan, window_plan};
-ghost use Rattle.tilt_syntax.specs.Grammar.{reducer_key};
 ghost use Rattle.tilt_syntax.specs.Query.{kinds, AreSound};
 ghost use Rattle.tilt_syntax.specs.Rest.{Finds, FindsExpr, FindsPart};
 ghost use Rattle.tilt_syntax.specs.Tree.{Reduce};
@@ -50,26 +49,6 @@ pub(crate) fn reading<'a>(
     };
     let name = name.copy()?;
     Ok(Some((Expr::Read { name, offset }, rest)))
-}
-
-/// The reducer that the reserved word is.
-pub fn reducer_of(key: Key) -> Option<Reducer>
-    ensures { MatchOption result
-        ((r : Reducer) → reducer_key r ≢ key)
-        (λ r. reducer_key r ≡ key) }
-{
-    match key {
-        Key::Sum => Some(Reducer::Sum),
-        Key::Avg => Some(Reducer::Avg),
-        Key::Min => Some(Reducer::Min),
-        Key::Max => Some(Reducer::Max),
-        Key::Count => Some(Reducer::Count),
-        Key::First => Some(Reducer::First),
-        Key::Last => Some(Reducer::Last),
-        Key::Any => Some(Reducer::Any),
-        Key::All => Some(Reducer::All),
-        _ => None,
-    }
 }
 
 // The window in parentheses after a reducer: its name and its two offsets, and what follows it.

@@ -8,7 +8,7 @@ ghost use Rattle.tilt_syntax.specs.Query.{kinds, AreSound};
 ghost use Rattle.tilt_syntax.specs.Rest.{FindsExpr};
 ghost use Rattle.tilt_syntax.specs.Tree.{expr_tree};
 
-use crate::atom::{reading, reducer_of, reduction};
+use crate::atom::{reading, reduction};
 use crate::expr::Expr;
 use crate::front::{after_key, after_mark};
 use crate::level::{Level, front_operator};
@@ -152,14 +152,12 @@ fn word(alloc: Global, key: Key, tokens: &[Token]) -> Found<'_>
     requires { AreSound (kinds tokens.now) }
     ensures { IfOk result (λ found. FindsExpr (word_plan key (kinds tokens.now)) (kinds tokens.now) found) }
 {
-    if let Some(reducer) = reducer_of(key) {
-        return reduction(reducer, tokens);
-    }
     match key {
         Key::TrueWord => Ok(Some((Expr::Truth(true), tokens))),
         Key::FalseWord => Ok(Some((Expr::Truth(false), tokens))),
         Key::IsNull => is_null(alloc, tokens),
         Key::IfNull => if_null(alloc, tokens),
+        Key::Reducer(reducer) => reduction(reducer, tokens),
         _ => Ok(None),
     }
 }

@@ -25,7 +25,6 @@ mod statement;
 mod text;
 mod tree;
 
-pub use atom::reducer_of;
 pub use clauses::is_end;
 pub use cut::first_statement;
 pub use every::Every;

@@ -1,8 +1,7 @@
 // The text of a query.
 ghost use Rattle.std.specs.Prelude.{◌≡◌, ◌++◌, map, IfOk, OnOk, MatchOption};
 ghost use Rattle.tilt_base.specs.Expression.{One, Two};
-ghost use Rattle.tilt_lexer.specs.Word.{key_text};
-ghost use Rattle.tilt_syntax.specs.Grammar.{infix_of, reducer_key};
+ghost use Rattle.tilt_syntax.specs.Grammar.{infix_of};
 ghost use Rattle.tilt_syntax.specs.Sign.{IsWritten};
 ghost use Rattle.tilt_syntax.specs.Printing.{atom_text, level_of, in_place, offset_text, reading_text, expr_text};
 ghost use Rattle.tilt_syntax.specs.Printing.{span_text, domain_text, from_text, grid_text, statement_text, query_text, ReadsBack};
@@ -269,7 +268,7 @@ fn put_window(
 ) -> Result<(), OutOfMemory>
     ensures { OnOk result (text.new.items ≡ text.old.items ++ atom_text (Reduce reducer name.now from to)) }
 {
-    put(text, reducer_name(reducer))?;
+    put(text, reducer.word())?;
     put(text, b"(")?;
     put(text, name.bytes())?;
     put(text, b"[")?;
@@ -277,13 +276,6 @@ fn put_window(
     put(text, b":")?;
     put_offset(text, to)?;
     put(text, b"])")
-}
-
-// The reserved word of a reducer.
-fn reducer_name(reducer: Reducer) -> &'static [u8]
-    ensures { result.now ≡ key_text (reducer_key reducer) }
-{
-    reducer.word()
 }
 
 // Appends `x`, or `x[t-3]`.

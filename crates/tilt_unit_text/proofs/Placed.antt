@@ -8,7 +8,7 @@ use Rattle.tilt_lexer.specs.declared.key.Key.TheVariants as key
 use Rattle.tilt_lexer.specs.declared.mark.Mark.TheVariants as mark
 use Rattle.tilt_lexer.specs.declared.token.Tok.{Tok}
 use Rattle.tilt_lexer.specs.declared.token.Tok.TheVariants.{Word, Number, Key as Reserved, Mark as Sign}
-use Rattle.tilt_syntax.specs.Grammar.{reducer_key, SpellsOffset, now, later, earlier, IsExpr, tighter, choice, between, negation, minus}
+use Rattle.tilt_syntax.specs.Grammar.{SpellsOffset, now, later, earlier, IsExpr, tighter, choice, between, negation, minus}
 use Rattle.tilt_syntax.specs.Grammar.{number, true_word, false_word, name, reading, window, is_null, if_null, enclosed}
 use Rattle.tilt_syntax.specs.Tree.{Num, Read, Reduce, ExprTree}
 use Rattle.tilt_unit_text.proofs.Split.{after, after_number, fixed_key, fixed_operator, fixed_sign, fixed_word, none_left, split_at, tokens_with}
@@ -123,7 +123,7 @@ module _ (numbers : List Written) where
       before 9 ws _ (Leaf (Read x o.offset)) (Leaf (Read x d)) w (reading o.is) (ap (λ m. Leaf (Read x m)) o.same)
   expr_before (window {r = r} {x = x} {ts = ts} {us = us} {l = l} {h = h} from to) ws p =
       let end = Sign mark.CloseBracket ∷ Sign mark.CloseParen ∷ [] in
-      let a = after numbers (Reserved (reducer_key r)) (fixed_key numbers (reducer_key r)) _ ws p in
+      let a = after numbers (Reserved (key.Reducer r)) (fixed_key numbers (key.Reducer r)) _ ws p in
       let b = after numbers (Sign mark.OpenParen) (fixed_sign numbers mark.OpenParen) _ a.rest a.others in
       let c = after numbers (Word x) (fixed_word numbers x) _ b.rest b.others in
       let d = after numbers (Sign mark.OpenBracket) (fixed_sign numbers mark.OpenBracket) _ c.rest c.others in
@@ -135,7 +135,7 @@ module _ (numbers : List Written) where
       let z = none_left numbers k.rest k.others in
       let o = offset_before from s.front s.front_is in
       let q = offset_before to t.front t.front_is in
-      let w : ws ≡ Reserved (reducer_key r) ∷ Sign mark.OpenParen ∷ Word x ∷ Sign mark.OpenBracket
+      let w : ws ≡ Reserved (key.Reducer r) ∷ Sign mark.OpenParen ∷ Word x ∷ Sign mark.OpenBracket
       ∷ (s.front ++ (Sign mark.Colon ∷ (t.front ++ (Sign mark.CloseBracket ∷ Sign mark.CloseParen ∷ [])))) =
       cc (a.is, b.is, c.is, d.is, s.is, f.is, t.is, g.is, k.is, z) in
       let same : Leaf (Reduce r x (digits_at numbers o.offset) (digits_at numbers q.offset)) ≡ Leaf (Reduce r x l h) = cc (o.same, q.same) in

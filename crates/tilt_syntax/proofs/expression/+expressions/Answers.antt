@@ -195,7 +195,7 @@ pub word-returns-in-FalseWord : goal.word-returns-in-FalseWord
 word-returns-in-FalseWord t c =
     rw c.in-FalseWord.is (gives _ _)
 
-pub word-returns-in_default-key : goal.word-returns-in_default-key
-word-returns-in_default-key t c =
-    no-word c.args.key _ c.in_default-key.not-TrueWord c.in_default-key.not-FalseWord c.in_default-key.not-IsNull
-    c.in_default-key.not-IfNull c.in_default.ensures
+pub word-returns-in_default : goal.word-returns-in_default
+word-returns-in_default t c =
+    no-word c.args.key _ c.in_default.not-TrueWord c.in_default.not-FalseWord c.in_default.not-IsNull
+    c.in_default.not-IfNull c.in_default.not-Reducer
