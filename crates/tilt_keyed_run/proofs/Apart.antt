@@ -25,7 +25,7 @@ text-append [] ys = refl
 text-append (x ∷ xs) ys =
     ap (λ (t : List ℕ). x ++ 10 ∷ t) (text-append xs ys) ∙ sym (append_assoc x (10 ∷ text_of xs) (text_of ys))
 
-whole-append : (x y : List ℕ) → IsWhole x → IsWhole y → IsWhole (x ++ y)
+pub whole-append : (x y : List ℕ) → IsWhole x → IsWhole y → IsWhole (x ++ y)
 whole-append x y a b =
     ap text_of (join-lines x y a) ∙ text-append (lines_in x) (lines_in y) ∙ (λ i. a i ++ b i)
 

@@ -1,5 +1,5 @@
 -- The places of keys.
-use Rattle.std.proofs.Common.{◌≡◌, ℕ, zero, suc, ◌<◌, ◌≤◌, Bool, true, false, List, [], ◌∷◌, ◌++◌, length, get_or, Some, None, slice_get, slice_set, refl, sym, ap, ◌∙◌, arith, inl, inr}
+use Rattle.std.proofs.Common.{◌≡◌, ℕ, zero, suc, ◌<◌, ◌≤◌, true, false, List, [], ◌∷◌, ◌++◌, length, get_or, Option, Some, None, slice_get, slice_set, refl, sym, ap, ◌∙◌, arith, inl, inr}
 use Rattle.std.specs.List.{position, position_or_len}
 use Rattle.std.specs.Str.{bytes_eq}
 use Rattle.std.proofs.lemmas.Bool.{cases_Bool}
@@ -8,12 +8,12 @@ use Rattle.std.proofs.lemmas.Option.{same_Some}
 use Rattle.tilt_base.proofs.Comparisons.{not_found}
 use Rattle.tilt_keyed_line.specs.Feeds.{KeyFeed, after_own, given}
 use Rattle.tilt_keyed_line.specs.Outputs.{with_key}
-use Rattle.tilt_keyed_run.specs.Output.{alone, own_output, own_stops, stops_from}
+use Rattle.tilt_keyed_run.specs.Output.{alone, is_known, own_fault, own_output}
 use Rattle.tilt_keyed_run.specs.Runs.{AreKeysOf, IsKeyOf}
 use Rattle.tilt_keyed_run.specs.declared.one_key.OneKey.{OneKey}
 
 module _ {R Recipe : Type 0} (is : R → Recipe → List (List ℕ) → Type 0) (recipe : Recipe) (first : List ℕ) (added : List (List ℕ) → List ℕ → List ℕ)
-    (stops : List (List ℕ) → List ℕ → Bool) where
+    {Bad : Type 0} (fault : List (List ℕ) → List ℕ → Option Bad) where
   -- a key at a place, and those before and after it
   pub key-at : (ones : List (OneKey R)) (front back : List KeyFeed) (feed : KeyFeed) (one : OneKey R) → AreKeysOf is ones recipe (front ++ feed ∷ back)
       → slice_get ones (length front) ≡ Some one → IsKeyOf is one recipe feed
@@ -34,7 +34,8 @@ module _ {R Recipe : Type 0} (is : R → Recipe → List (List ℕ) → Type 0) 
     pub feed : KeyFeed
     pub key_is : IsKeyOf is one recipe feed
     pub writes : own_output first added key shared line feeds ≡ with_key feed.key (added feed.lines line)
-    pub halts : own_stops stops key shared line feeds ≡ stops feed.lines line
+    pub bad : own_fault fault key shared line feeds ≡ fault feed.lines line
+    pub known : is_known key feeds ≡ true
     pub later : (o : OneKey R) → IsKeyOf is o recipe (given line feed) → AreKeysOf is (slice_set ones i o) recipe (after_own key shared line feeds)
 
   own_place : (key : List ℕ) (shared : List (List ℕ)) (line : List ℕ) (ones : List (OneKey R)) (feeds : List KeyFeed) (i : ℕ) (one : OneKey R)
@@ -49,7 +50,8 @@ module _ {R Recipe : Type 0} (is : R → Recipe → List (List ℕ) → Type 0) 
         feed = feed;
         key_is = here;
         writes = rw own refl;
-        halts = rw own refl;
+        bad = rw own refl;
+        known = rw own refl;
         later = λ p now. rw own (now, are.1);
       }
   own_place key shared line (o ∷ ones) (feed ∷ feeds) (suc i) one are at same before =
@@ -59,7 +61,8 @@ module _ {R Recipe : Type 0} (is : R → Recipe → List (List ℕ) → Type 0) 
         feed = rest.feed;
         key_is = rest.key_is;
         writes = rw other rest.writes;
-        halts = rw other rest.halts;
+        bad = rw other rest.bad;
+        known = rw other rest.known;
         later = λ p now. rw other (are.0, rest.later p now);
       }
 
@@ -73,13 +76,14 @@ module _ {R Recipe : Type 0} (is : R → Recipe → List (List ℕ) → Type 0) 
   -- a key that isn't there
   pub record IsNew (key : List ℕ) (shared : List (List ℕ)) (line : List ℕ) (ones : List (OneKey R)) (feeds : List KeyFeed) : Type 0 where
     pub writes : own_output first added key shared line feeds ≡ with_key key (alone first added (shared ++ line ∷ []))
-    pub halts : own_stops stops key shared line feeds ≡ stops_from stops [] (shared ++ line ∷ [])
+    pub bad : own_fault fault key shared line feeds ≡ fault shared line
+    pub unknown : is_known key feeds ≡ false
     pub later : (o : OneKey R) → IsKeyOf is o recipe (record { key = key; lines = shared ++ line ∷ [] })
         → AreKeysOf is (ones ++ o ∷ []) recipe (after_own key shared line feeds)
 
   new_whole : (key : List ℕ) (shared : List (List ℕ)) (line : List ℕ) (ones : List (OneKey R)) (feeds : List KeyFeed) → AreKeysOf is ones recipe feeds
       → length ones ≤ position_or_len (λ o. bytes_eq o.key.items key) ones → IsNew key shared line ones feeds
-  new_whole key shared line [] [] are none = record { writes = refl; halts = refl; later = λ o now. (now, tt) }
+  new_whole key shared line [] [] are none = record { writes = refl; bad = refl; unknown = refl; later = λ o now. (now, tt) }
   new_whole key shared line [] (feed ∷ feeds) are none = absurd are
   new_whole key shared line (o ∷ ones) [] are none = absurd are
   new_whole key shared line (o ∷ ones) (feed ∷ feeds) are none =
@@ -89,7 +93,12 @@ module _ {R Recipe : Type 0} (is : R → Recipe → List (List ℕ) → Type 0) 
             let less : length ones ≤ position_or_len (λ p. bytes_eq p.key.items key) ones = omega (arith, rw differs at none) in
             let other : bytes_eq feed.key key ≡ false = ap (λ (k : List ℕ). bytes_eq k key) (sym are.0.key_is) ∙ differs in
             let rest = new_whole key shared line ones feeds are.1 less in
-            record { writes = rw other rest.writes; halts = rw other rest.halts; later = λ p now. rw other (are.0, rest.later p now) }
+            record {
+              writes = rw other rest.writes;
+              bad = rw other rest.bad;
+              unknown = rw other rest.unknown;
+              later = λ p now. rw other (are.0, rest.later p now);
+            }
       ]
 
   pub own-new : (key : List ℕ) (shared : List (List ℕ)) (line : List ℕ) (ones : List (OneKey R)) (feeds : List KeyFeed) → AreKeysOf is ones recipe feeds

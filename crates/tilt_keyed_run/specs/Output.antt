@@ -1,15 +1,15 @@
--- What is written for the lines of a feed with keys, if this is written for those of one key (our own rule).
-use Rattle.std.specs.Prelude.{ℕ, Bool, false, ◌||◌, if◌then◌else◌, List, [], ◌∷◌, ◌++◌, Option, None, Some, Result, Ok, Err}
+-- What is written for the lines of a feed with keys, and which of them are bad, if this is so for the lines of one key (our own rule).
+use Rattle.std.specs.Prelude.{ℕ, Bool, false, not, ◌&&◌, if◌then◌else◌, List, [], ◌∷◌, ◌++◌, length, nat_le}
+use Rattle.std.specs.Prelude.{Option, None, Some, option_map, Result, Ok, Err}
+use Rattle.std.specs.List.{list_any}
+use Rattle.std.specs.Option.{option_or}
 use Rattle.std.specs.Str.{bytes_eq}
 use Rattle.tilt_keyed_line.specs.Address.{address}
 use Rattle.tilt_keyed_line.specs.Feeds.{KeyFeed, KeyedFeed, after_address}
 use Rattle.tilt_keyed_line.specs.Outputs.{lines_in, with_key}
 use Rattle.tilt_keyed_line.specs.declared.key_fault.KeyFault.{KeyFault}
-
--- why a line with an address has no key, if it has none
-abbrev pub fault_of : Result (Option (List ℕ × List ℕ)) KeyFault → Option KeyFault
-fault_of (Ok parts) = None
-fault_of (Err why) = Some why
+use Rattle.tilt_keyed_run.specs.declared.bad_keyed_line.BadKeyedLine.{BadKeyedLine}
+use Rattle.tilt_keyed_run.specs.declared.bad_keyed_line.BadKeyedLine.TheVariants.{NoKey, OfKey}
 
 -- What a run of one key writes before its first line, and for a line after others.
 module _ (first : List ℕ) (added : List (List ℕ) → List ℕ → List ℕ) where
@@ -54,29 +54,39 @@ module _ (first : List ℕ) (added : List (List ℕ) → List ℕ → List ℕ) 
   output [] feed = []
   output (line ∷ lines) feed = address_output (address line) feed ++ output lines (after_address (address line) feed)
 
--- Whether a line after others stops the run of one key.
-module _ (stops : List (List ℕ) → List ℕ → Bool) where
-  -- whether one of the lines after others does
-  abbrev pub stops_from : List (List ℕ) → List (List ℕ) → Bool
-  stops_from before [] = false
-  stops_from before (line ∷ lines) = stops before line || stops_from (before ++ line ∷ []) lines
+-- Why a line after others is bad for the run of one key, if it is.
+module _ {Bad : Type 0} (fault : List (List ℕ) → List ℕ → Option Bad) where
+  -- why a line of one key is. The run of a new key starts with the last line of every key, which was judged when it came
+  abbrev pub own_fault : List ℕ → List (List ℕ) → List ℕ → List KeyFeed → Option Bad
+  own_fault key shared line [] = fault shared line
+  own_fault key shared line (feed ∷ feeds) = if bytes_eq feed.key key then fault feed.lines line else own_fault key shared line feeds
 
-  -- whether a line of one key stops its run
-  abbrev pub own_stops : List ℕ → List (List ℕ) → List ℕ → List KeyFeed → Bool
-  own_stops key shared line [] = stops_from [] (shared ++ line ∷ [])
-  own_stops key shared line (feed ∷ feeds) = if bytes_eq feed.key key then stops feed.lines line else own_stops key shared line feeds
+  -- why a line of every key is: the first cause in the order of the keys
+  abbrev pub every_fault : List ℕ → List KeyFeed → Option Bad
+  every_fault line [] = None
+  every_fault line (feed ∷ feeds) = option_or (fault feed.lines line) (every_fault line feeds)
 
-  -- whether a line of every key stops one of their runs
-  abbrev pub every_stops : List ℕ → List KeyFeed → Bool
-  every_stops line [] = false
-  every_stops line (feed ∷ feeds) = stops feed.lines line || every_stops line feeds
+  abbrev pub key_fault : List ℕ → List ℕ → KeyedFeed → Option Bad
+  key_fault [] line feed = every_fault line feed.keys
+  key_fault (byte ∷ key) line feed = own_fault (byte ∷ key) feed.shared line feed.keys
 
-  abbrev pub key_stops : List ℕ → List ℕ → KeyedFeed → Bool
-  key_stops [] line feed = every_stops line feed.keys
-  key_stops (byte ∷ key) line feed = own_stops (byte ∷ key) feed.shared line feed.keys
+  -- why a line with an address is bad, if it is
+  abbrev pub address_fault : Result (Option (List ℕ × List ℕ)) KeyFault → KeyedFeed → Option (BadKeyedLine Bad)
+  address_fault (Ok (Some parts)) feed = option_map OfKey (key_fault parts.0 parts.1 feed)
+  address_fault (Ok None) feed = None
+  address_fault (Err why) feed = Some (NoKey why)
 
-  -- whether a line with an address stops a run
-  abbrev pub address_stops : Result (Option (List ℕ × List ℕ)) KeyFault → KeyedFeed → Bool
-  address_stops (Ok (Some parts)) feed = key_stops parts.0 parts.1 feed
-  address_stops (Ok None) feed = false
-  address_stops (Err why) feed = false
+-- whether a key is one of these
+abbrev pub is_known : List ℕ → List KeyFeed → Bool
+is_known key feeds = list_any (λ feed. bytes_eq feed.key key) feeds
+
+-- whether a key would be one more than there may be. A line of every key has no key of its own
+abbrev pub key_exceeds : ℕ → List ℕ → List KeyFeed → Bool
+key_exceeds most [] feeds = false
+key_exceeds most (byte ∷ key) feeds = not (is_known (byte ∷ key) feeds) && nat_le most (length feeds)
+
+-- whether the key of a line with an address would be
+abbrev pub address_exceeds : ℕ → Result (Option (List ℕ × List ℕ)) KeyFault → KeyedFeed → Bool
+address_exceeds most (Ok (Some parts)) feed = key_exceeds most parts.0 feed.keys
+address_exceeds most (Ok None) feed = false
+address_exceeds most (Err why) feed = false

@@ -1,4 +1,5 @@
 pub mod Adding
+pub mod Baring
 pub mod Beginning
 pub mod KeepingRows
 pub mod Leaving

@@ -1,4 +1,5 @@
 pub mod Adds
+pub mod Bare
 pub mod Joined
 pub mod KeptRows
 pub mod Leaves

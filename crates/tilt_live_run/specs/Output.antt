@@ -38,12 +38,16 @@ news display core before after =
     lines_in display.style (drop (length (printed core before)) (printed core after))
     ++ (if display.with_begun then begun_news display.style (begun_start (begun core before)) (begun core after) else [])
 
+-- what is written before the first line, after the header: what can be printed by then
+abbrev pub first_rows : Display → CoreParts → List ℕ
+first_rows display core =
+    let feed = empty_feed (length core.inputs) in
+    lines_in display.style (printed core feed)
+    ++ (if display.with_begun then begun_news display.style None (begun core feed) else [])
+
 -- what is written before the first line: the header, and what can be printed by then
 abbrev pub first_news : Display → CoreParts → List ℕ
-first_news display core =
-    let feed = empty_feed (length core.inputs) in
-    codes "start,end,value\n" ++ (lines_in display.style (printed core feed)
-    ++ (if display.with_begun then begun_news display.style None (begun core feed) else []))
+first_news display core = codes "start,end,value\n" ++ first_rows display core
 
 -- what is written for lines after some, of which the first one has a number
 abbrev pub news_from : RunOptions → CoreParts → ℕ → FeedState → List (List ℕ) → List ℕ

@@ -9,8 +9,12 @@
 //! A run that keeps what its state needs hands it on by `LiveRun::state`: exactly what `specs/Left` says of the bytes of
 //! its lines. The clauses of `LiveRun::resume` say that it makes of that state the run after these bytes, which goes on as the other would
 //! have.
+//!
+//! `BareRun` is a run over single lines, for feeds whose lines come with a key. It writes the same without the header, and returns why a
+//! line is bad.
 #![tactic(auto)]
 
+mod bare_run;
 mod display;
 mod events;
 mod inputs;
@@ -25,6 +29,7 @@ mod shown;
 mod state_rows;
 mod stop;
 
+pub use bare_run::BareRun;
 pub use display::Display;
 pub use keep::Keep;
 pub use law::output_is_printed;

@@ -180,6 +180,22 @@ impl LineRun {
         Ok(())
     }
 
+    // Takes a line without its LF, and returns why it is bad, if it is. Nothing is written or reported.
+    pub(crate) fn take_line(&mut self, line: &[u8]) -> Result<Option<BadFeedLine>, OutOfMemory>
+        ensures taken { (accepted : AcceptedParts) (options : RunOptions) (number : ℕ) (state : FeedState) (given : ℕ)
+            → IsLineRunOf self.old accepted options number state given
+            → IfOk result (λ why. (why ≡ line_fault options.form accepted.core.inputs state.kept number line.now)
+            × IsLineRunOf self.new accepted options (next_count number)
+            (after_line options.form accepted.core.inputs number line.now state) given) }
+        ensures kept { (self.new.shown ≡ self.old.shown) × (self.new.display ≡ self.old.display) }
+        ensures live { IsLive self.old.live → IsLive self.new.live }
+    {
+        let why = self.take_content(line)?;
+        let next = self.number.saturating_add(1);
+        self.number = next;
+        Ok(why)
+    }
+
     // Reports that the line after those that were taken is bad, which stops the run if bad lines do, or if the header hasn't come.
     fn report_bad<E: Sink>(&self, why: BadFeedLine, err: &mut E) -> Result<(), Stop>
         requires { (n : ℕ) → E.takes err.old n }

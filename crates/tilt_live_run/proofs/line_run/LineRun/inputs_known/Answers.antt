@@ -1,4 +1,4 @@
-use Rattle.std.proofs.Common.{◌≡◌, ◌∙◌, ℤ, List, IfOk, ap, map, of_z, rules, subst, sym, to_z, w64}
+use Rattle.std.proofs.Common.{◌≡◌, ◌∙◌, ℤ, List, IfOk, ap, map, of_z, rules, subst, to_z, w64}
 use Rattle.tilt_input_state.specs.Resume.{first_read}
 use Rattle.tilt_live_run.proofs.Leaving.{bare-open}
 use Rattle.tilt_live_run.proofs.Upto.{tick-shown}

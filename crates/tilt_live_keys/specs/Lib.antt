@@ -1,0 +1,8 @@
+pub mod Adds
+pub mod BytesPort
+pub mod Output
+pub mod Recipe
+pub mod Report
+pub mod Runs
+pub mod Stops
+pub mod Taken
