@@ -202,6 +202,7 @@ def test_the_completion_has_the_options_of_tilt_live(root):
         "--unit",
         "--scale",
         "--event",
+        "--events",
         "--max-age",
         "--closed",
         "--ties",
@@ -212,6 +213,8 @@ def test_the_completion_has_the_options_of_tilt_live(root):
         "--times",
         "--decimals",
         "--units",
+        "--check",
+        "--bounds",
     ]
     assert offered(root, "tilt-live", "query.tilt", "--", by="_tilt_live") == options
 

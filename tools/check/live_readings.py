@@ -67,6 +67,9 @@ MORE_ARGUMENTS = [
     "--time time",
     "--tick 1s",
     "--max-age 5s --event",
+    "--max-age x=5s --event",
+    "--events x --event",
+    "--events x --max-age x=5s",
     "--ties",
     "--folder f --position --every 2",
 ]
@@ -82,7 +85,8 @@ MORE_ARGUMENTS += [
 ]
 BAD_VALUES = {
     "unit": "min S 1 s,ms",
-    "max-age": "0s 1500ms 1 s -1s 1s=2s",
+    "max-age": "0s 1500ms 1 s -1s 1s=2s x=1s,x=2s x= x=0s =1s x=1s,",
+    "events": "x,x 1x x, ,x x=1s",
     "scale": "0 -1 1.5 x x= =1 x=0 x=1,x=1 x=1, 1000000000000000001 auto",
     "closed": "Left both",
     "ties": "all",
@@ -268,7 +272,9 @@ class Place:
     def check_series(self, draw: random.Random, base: int, tally: Tally) -> None:
         """A feed whose readings become series, by the same options, of which a query has all rows at once."""
         names = self.query.inputs
-        form = dataclasses.replace(random_form(draw, names, base), skip_empty=True, delimiter=draw.choice(",;\t"), decimal=".")
+        form = dataclasses.replace(
+            random_form(draw, names, base), skip_empty=True, delimiter=draw.choice(",;\t"), decimal=".", events=(), ages={}
+        )
         lines, readings = lines_in_order(form, names, random_lines(draw, form, names, base, 0.0))
         if not names or not all(known.readings for known in readings.inputs.values()):
             return
@@ -337,7 +343,8 @@ def check_query(draw: random.Random, live: str, tilt: str, number: int, tally: T
 def check_arguments(live: str, tally: Tally) -> None:
     """Arguments that are wrong, and scales of inputs that the query doesn't have."""
     cases = [(words.split(" "), Came(2, b"", USAGE)) for words in BAD_ARGUMENTS]
-    cases += [([*TIMES.split(), "--scale", "x=10,other=1,more=1"], Came(1, b"", b"tilt: 66 no input other\n"))]
+    named = ["--scale x=10,other=1,more=1", "--max-age x=1s,other=1s", "--events other,x", "--events more --max-age other=1s"]
+    cases += [([*f"{TIMES} {words}".split(), "--begun"], Came(1, b"", b"tilt: 66 no input other\n")) for words in named]
     for words, wanted in cases:
         with tempfile.TemporaryDirectory() as folder:
             with open(os.path.join(folder, "query.tilt"), "w", encoding="ascii") as file:

@@ -26,7 +26,8 @@ def random_form(draw: random.Random, names: Sequence[str], base: int) -> Form:
     lengths = [SECOND, SECOND, SECOND // 2, 60 * SECOND, 7000, 10**6, 1, 86400 * SECOND, draw.randint(1, 10**12)]
     tick = 1 if far and unit is None else draw.choice(lengths)
     named = draw.random() < 0.6
-    event = draw.random() < 0.3
+    event, events = random_events(draw, names)
+    max_age, ages = (None, {}) if event else random_ages(draw, [name for name in names if name not in events])
     delimiter = draw.choice([*[","] * 6, ";", ";", "\t", "|", " ", "-", "0", "x"])
     same, some = draw.choice([1, 1, 10, 100, 1000, 60, 10**18]), [name for name in names if draw.random() < 0.7]
     scales = {name: draw.choice([1, 10, 100, 7]) for name in some} if draw.random() < 0.5 else dict.fromkeys(names, same)
@@ -39,7 +40,9 @@ def random_form(draw: random.Random, names: Sequence[str], base: int) -> Form:
         unit=unit,
         scales=scales,
         event=event,
-        max_age=None if event or draw.random() < 0.6 else draw.choice([1, 2, 3, 5, 10, 100]),
+        events=events,
+        max_age=max_age,
+        ages=ages,
         closed=draw.choice(["left", "left", "right"]),
         ties=draw.choice(["refuse", "first", "last", "last", "spread"]),
         nulls=draw.choice([[], [], ["NaN"], ["-1", "n/a"], ["NaN", "nan", "\u2013"]]),
@@ -47,6 +50,21 @@ def random_form(draw: random.Random, names: Sequence[str], base: int) -> Form:
         delimiter=delimiter,
         decimal="." if delimiter == "," or draw.random() < 0.6 else ",",
     )
+
+
+def random_events(draw: random.Random, names: Sequence[str]) -> tuple[bool, list[str]]:
+    """Whether the readings of all inputs hold for their tick alone; or of which inputs they do."""
+    if draw.random() < 0.2:
+        return True, []
+    return False, [name for name in names if draw.random() < 0.3]
+
+
+def random_ages(draw: random.Random, names: Sequence[str]) -> tuple[int | None, dict[str, int]]:
+    """For how many ticks the readings of all inputs hold at most; or those of some of these."""
+    ticks = [1, 2, 3, 5, 10, 100]
+    if draw.random() < 0.3:
+        return draw.choice(ticks), {}
+    return None, {name: draw.choice(ticks) for name in names if draw.random() < 0.3}
 
 
 def duration_text(draw: random.Random, length: int) -> str:
@@ -58,7 +76,10 @@ def words_of(draw: random.Random, form: Form, names: Sequence[str]) -> list[list
     """The options that say a form, each with its value. What is the default is left out at times."""
     given = {"time": form.time, "name": form.name, "value": form.value, "unit": form.unit, "tick": duration_text(draw, form.tick)}
     given["null"] = ",".join(form.nulls) or None
-    given["max-age"] = None if form.max_age is None else duration_text(draw, form.max_age * form.tick)
+    given["max-age"] = ",".join(f"{name}={duration_text(draw, age * form.tick)}" for name, age in form.ages.items()) or None
+    if form.max_age is not None:
+        given["max-age"] = duration_text(draw, form.max_age * form.tick)
+    given["events"] = ",".join(form.events) or None
     texts = {"closed": form.closed, "ties": form.ties, "decimal": form.decimal, "delimiter": form.delimiter.replace("\t", "\\t")}
     defaults = {"closed": "left", "ties": "refuse", "decimal": ".", "delimiter": ","}
     given |= {option: text for option, text in texts.items() if text != defaults[option] or draw.random() < 0.2}

@@ -52,7 +52,8 @@ Reading = tuple[int, "int | None"]
 @dataclasses.dataclass(frozen=True)
 class Form:
     """How readings are written, and what they mean: the titles of the columns, of which two are missing if each input has a column of its
-    own; the clock in nanoseconds; the scales of inputs, of which the others have 1; the maximum age in ticks."""
+    own; the clock in nanoseconds; the scales of inputs, of which the others have 1. The readings of all inputs are events, or those of
+    some; the others hold for a maximum age in ticks, one for all of them or one for some."""
 
     time: str
     name: str | None = None
@@ -62,7 +63,9 @@ class Form:
     unit: str | None = None
     scales: Mapping[str, int] = dataclasses.field(default_factory=dict)
     event: bool = False
+    events: Sequence[str] = ()
     max_age: int | None = None
+    ages: Mapping[str, int] = dataclasses.field(default_factory=dict)
     closed: str = "left"
     ties: str = "refuse"
     nulls: Sequence[str] = ()
@@ -73,10 +76,15 @@ class Form:
     def scale(self, name: str) -> int:
         return self.scales.get(name, 1)
 
-    @property
-    def age(self) -> int | None:
-        """For how many ticks a reading holds at most."""
-        return 1 if self.event else self.max_age
+    def is_event(self, name: str) -> bool:
+        """Whether the readings of an input hold for their tick alone."""
+        return self.event or name in self.events
+
+    def age(self, name: str) -> int | None:
+        """For how many ticks a reading of an input holds at most."""
+        if self.is_event(name):
+            return 1
+        return self.ages[name] if name in self.ages else self.max_age
 
 
 # Texts
@@ -195,20 +203,20 @@ class Input:
         tied = bool(self.readings) and self.readings[-1][0] == tick
         return TIE.format(number) if tied and form.ties == "refuse" else None
 
-    def known(self, form: Form) -> InputFeed:
-        """What the feed has of it: the row of a reading starts a tick before the reading's, and ends where the next one starts, or by its
-        age. The last row is open, unless its age has ended it before the mark."""
+    def known(self, form: Form, name: str) -> InputFeed:
+        """What the feed has of the input with a name. The row of a reading starts a tick before the reading's, and ends where the next one
+        starts, or by its age. The last row is open, unless its age has ended it before the mark."""
         readings = counted(form.ties, self.readings)
         if form.ties == "last" and readings and readings[-1][0] - 1 == self.mark:
             # Another one may come in its tick.
             readings.pop()
-        starts = [tick - 1 for tick, _ in readings]
+        starts, age = [tick - 1 for tick, _ in readings], form.age(name)
         rows, open_row = [], None
         for start, (_, value), following in zip(starts, readings, [*starts[1:], None]):
-            aged = [] if form.age is None else [start + form.age]
+            aged = [] if age is None else [start + age]
             if value is None:
                 continue
-            if following is None and not form.event and not any(end < self.mark for end in aged):
+            if following is None and not form.is_event(name) and not any(end < self.mark for end in aged):
                 open_row = (start, value)
             else:
                 rows.append((start, min([following, *aged] if following is not None else aged), value))
@@ -247,7 +255,7 @@ class Readings:
         self.inputs = {name: Input() for name in names}
 
     def feed(self) -> Feed:
-        return Feed({name: known.known(self.form) for name, known in self.inputs.items()})
+        return Feed({name: known.known(self.form, name) for name, known in self.inputs.items()})
 
     def take(self, line: bytes) -> None:
         """Takes a line without its LF. A bad one raises `BadLine`, and changes nothing."""

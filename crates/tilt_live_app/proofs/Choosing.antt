@@ -1,7 +1,7 @@
 -- The feed of a command that chooses a folder.
 use Rattle.std.proofs.Common.{◌≡◌, ◌∙◌, ap}
 use Rattle.tilt_compiler.specs.Accepted.{AcceptedParts}
-use Rattle.tilt_live_app.specs.Arguments.{CommandValue}
+use Rattle.tilt_live_cli.specs.Arguments.{CommandValue}
 use Rattle.tilt_live_app.specs.Begun.{IsBegun}
 use Rattle.tilt_live_app.specs.Change.{ShelfChange}
 use Rattle.tilt_live_app.specs.InFolder.{IsFeedOf}

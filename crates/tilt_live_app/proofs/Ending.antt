@@ -5,7 +5,7 @@ use Rattle.tilt_checkpoint.specs.Valid.{IsAccepted}
 use Rattle.tilt_compiler.specs.Accepted.{AcceptedParts}
 use Rattle.tilt_core.specs.Core.{CoreParts}
 use Rattle.tilt_feed_text.specs.Split.{ended}
-use Rattle.tilt_live_app.specs.Arguments.{CommandValue, IsLiveCommand}
+use Rattle.tilt_live_cli.specs.Arguments.{CommandValue, IsLiveCommand}
 use Rattle.tilt_live_app.specs.Begun.{IsBegun}
 use Rattle.tilt_live_app.specs.Change.{IsSaved, IsUnsaved, ShelfChange, shelf_change}
 use Rattle.tilt_live_app.specs.Keeping.{HasKept, IsSaveFailure, IsTextOfRun}

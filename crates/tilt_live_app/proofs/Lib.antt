@@ -3,5 +3,3 @@ pub mod Ending
 pub mod Feeding
 pub mod Flushing
 pub mod Living
-pub mod OneCommand
-mod Settings

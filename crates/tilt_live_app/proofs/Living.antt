@@ -4,11 +4,11 @@ use Rattle.tilt_bounds.specs.Margins.{margins_of}
 use Rattle.tilt_checkpoint.specs.Valid.{IsAccepted}
 use Rattle.tilt_compiler.specs.Accepted.{AcceptedParts, IsAccepted as IsCompiled}
 use Rattle.tilt_core.specs.Core.{CoreParts}
-use Rattle.tilt_live_app.specs.Arguments.{CommandValue}
-use Rattle.tilt_live_app.specs.Asked.{IsUnscaled, form_asked, named_scales}
+use Rattle.tilt_live_cli.specs.Arguments.{CommandValue}
+use Rattle.tilt_live_app.specs.Asked.{IsMisnamed, form_asked, missing_named}
 use Rattle.tilt_input_scales.specs.Scales.{ScalesValue}
 use Rattle.tilt_live_app.specs.BeginReport.{BeginReport, begin_of_units, in_units, no_input, shared}
-use Rattle.tilt_live_app.specs.Begun.{HasTaken, IsUnbegun, no_memory, refused, refused_in_units, state_refused, state_unread, unread, unscaled}
+use Rattle.tilt_live_app.specs.Begun.{HasTaken, IsUnbegun, no_memory, refused, refused_in_units, state_refused, state_unread, unread, misnamed}
 use Rattle.tilt_live_app.specs.Change.{shelf_change}
 use Rattle.tilt_live_app.specs.StateFile.{RefusesState}
 use Rattle.tilt_load.specs.Load.{IsLoadFault}
@@ -48,14 +48,14 @@ module _ {S : Type 0} (tells : Type 0) (files : S → List ℕ → List ℕ) (re
   units-unbegun old new scales (units.shared out_of_memory) is fault = no_memory
   units-unbegun old new scales (units.own own) is fault = refused_in_units scales is fault
 
-  -- scales that aren't those of the query's inputs, after the query was loaded
-  pub scales-unbegun : (old new : S) (query : List StatementTree) (core : CoreParts) (decimals : Option ℕ)
+  -- a name in options that is no input, after the query was loaded
+  pub names-unbegun : (old new : S) (query : List StatementTree) (core : CoreParts) (decimals : Option ℕ)
       → HasTaken tells (files old command.query) command.units query core decimals → (report : BeginReport)
-      → IsUnscaled (named_scales command.readings command.units) core.inputs report
+      → IsMisnamed (missing_named command.readings command.units core.inputs) report
       → IsUnbegun (shelf_change tells files read_faults save_faults old new) command report
-  scales-unbegun old new query core decimals taken (no_input name) missing = unscaled query core decimals name taken missing
-  scales-unbegun old new query core decimals taken (in_units fault) none = absurd none
-  scales-unbegun old new query core decimals taken (shared report) none = rw none no_memory
+  names-unbegun old new query core decimals taken (no_input name) missing = misnamed query core decimals name taken missing
+  names-unbegun old new query core decimals taken (in_units fault) none = absurd none
+  names-unbegun old new query core decimals taken (shared report) none = rw none no_memory
 
   -- a state that wasn't loaded, after the query was
   pub state-unbegun : (old mid new : S) (file : List ℕ) (query : List StatementTree) (core : CoreParts) (decimals : Option ℕ)

@@ -1,15 +1,14 @@
 -- What a command asks of the run of a query (our own rule).
-use Rattle.std.specs.Prelude.{◌≡◌, ℕ, Bool, if◌then◌else◌, List, [], Option, None, Some}
+use Rattle.std.specs.Prelude.{◌≡◌, ℕ, Bool, if◌then◌else◌, List, Option, None, Some}
 use Rattle.tilt_feed_form.specs.Setup.{SetupParts}
 use Rattle.tilt_feed_form.specs.declared.feed_form.FeedForm.TheVariants.{Readings, Rows}
 use Rattle.tilt_feed_form.specs.declared.feed_form.FeedForm.{FeedForm}
-use Rattle.tilt_live_app.specs.Arguments.{CommandValue}
+use Rattle.tilt_live_cli.specs.Arguments.{CommandValue}
 use Rattle.tilt_input_scales.specs.Scales.{ScalesValue}
-use Rattle.tilt_input_scales.specs.declared.input_scale.InputScale.{InputScale}
 use Rattle.tilt_live_app.specs.BeginReport.{BeginReport, in_units, no_input, shared}
 use Rattle.tilt_live_run.specs.declared.display.Display.{Display}
 use Rattle.tilt_live_run.specs.declared.run_options.RunOptions.{RunOptions}
-use Rattle.tilt_reading_options.specs.Form.{form_for, options_for}
+use Rattle.tilt_reading_options.specs.Form.{form_for, missing_input, options_for}
 use Rattle.tilt_reading_options.specs.Scales.{missing_among}
 use Rattle.tilt_reading_options.specs.Values.{ChoiceValue}
 use Rattle.tilt_report.specs.Report.{out_of_memory}
@@ -21,26 +20,26 @@ use Rattle.tilt_watermarks.specs.declared.options.Options.{Options}
 abbrev pub setup_for : ChoiceValue → List (List ℕ) → SetupParts
 setup_for choice inputs = record { form = form_for choice inputs; options = options_for choice inputs }
 
--- the scales that have names: of readings, or of a query in units
-abbrev pub named_scales : Option ChoiceValue → Option ScalesValue → List InputScale
-named_scales None None = []
-named_scales None (Some scales) = scales.named
-named_scales (Some choice) units = choice.scales.named
+-- the first name in options that is no input: in those of readings, or in the scales of a query in units
+abbrev pub missing_named : Option ChoiceValue → Option ScalesValue → List (List ℕ) → Option (List ℕ)
+missing_named None None inputs = None
+missing_named None (Some scales) inputs = missing_among scales.named inputs
+missing_named (Some choice) units inputs = missing_input choice inputs
 
--- why scales aren't those of inputs with these names: one of them has another name, or there is no memory
-abbrev pub IsUnscaled : List InputScale → List (List ℕ) → BeginReport → Type 0
-IsUnscaled scales inputs (no_input name) = missing_among scales inputs ≡ Some name
-IsUnscaled scales inputs (in_units fault) = ⊥
-IsUnscaled scales inputs (shared report) = report ≡ out_of_memory
+-- what is reported if this name is no input, or if there is no memory
+abbrev pub IsMisnamed : Option (List ℕ) → BeginReport → Type 0
+IsMisnamed missing (no_input name) = missing ≡ Some name
+IsMisnamed missing (in_units fault) = ⊥
+IsMisnamed missing (shared report) = report ≡ out_of_memory
 
 -- the form of a feed: rows, with these options of its watermarks; or readings, if the options of readings say a choice
 abbrev pub form_asked : Option ChoiceValue → Options → List (List ℕ) → FeedForm
 form_asked None watermarks inputs = Rows watermarks
 form_asked (Some choice) watermarks inputs = Readings (setup_for choice inputs)
 
--- each name in the scales that a command gives is that of an input
-abbrev pub IsScaled : CommandValue → List (List ℕ) → Type 0
-IsScaled command inputs = missing_among (named_scales command.readings command.units) inputs ≡ None
+-- each name in the options of a command is that of an input
+abbrev pub NamesInputs : CommandValue → List (List ℕ) → Type 0
+NamesInputs command inputs = missing_named command.readings command.units inputs ≡ None
 
 -- how the times of readings are written
 abbrev pub times_for : ChoiceValue → Bool → Times

@@ -5,6 +5,9 @@ use Rattle.tilt_live_app.specs.declared.unbegun.Unbegun.TheVariants.{InUnits, No
 use Rattle.tilt_reading_options.specs.declared.fault.FormFault.{FormFault}
 use Rattle.tilt_reading_options.specs.declared.fault.FormFault.TheVariants as form
 use Rattle.tilt_report.specs.Report.{Report, line_of, out_of_memory, report_of, status_of}
+use Rattle.tilt_unit_check.specs.declared.fault.CheckFault.{CheckFault}
+use Rattle.tilt_unit_check.specs.declared.fault.CheckFault.TheVariants.{Unloaded}
+use Rattle.tilt_unit_check.specs.declared.fault.CheckFault.TheVariants as unit_check
 use Rattle.tilt_unit_load.specs.UnitReport.{UnitReport, line_of_units, status_of_units, unit_report}
 use Rattle.tilt_unit_load.specs.UnitReport as units
 use Rattle.tilt_unit_load.specs.declared.fault.UnitFileFault.{UnitFileFault}
@@ -24,6 +27,11 @@ abbrev pub begin_report : Unbegun → BeginReport
 begin_report (Shared fault) = shared (report_of fault)
 begin_report (InUnits fault) = begin_of_units (unit_report fault)
 begin_report (NoInput name) = no_input name
+
+-- why a query isn't checked
+abbrev pub report_of_check : CheckFault → BeginReport
+report_of_check (Unloaded fault) = begin_of_units (unit_report fault)
+report_of_check (unit_check.NoInput name) = no_input name
 
 -- why scales have no form
 abbrev pub report_of_form : FormFault → BeginReport

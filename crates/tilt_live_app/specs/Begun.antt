@@ -1,9 +1,9 @@
 -- What a command reads before its feed (our own rule).
 use Rattle.std.specs.Prelude.{◌≡◌, ℕ, List, Option, None, Some}
 use Rattle.tilt_core.specs.Core.{CoreParts}
-use Rattle.tilt_live_app.specs.Arguments.{CommandValue}
+use Rattle.tilt_live_cli.specs.Arguments.{CommandValue}
 use Rattle.tilt_input_scales.specs.Scales.{ScalesValue}
-use Rattle.tilt_live_app.specs.Asked.{IsScaled, form_asked, named_scales, options_asked}
+use Rattle.tilt_live_app.specs.Asked.{NamesInputs, form_asked, missing_named, options_asked}
 use Rattle.tilt_live_app.specs.BeginReport.{BeginReport, begin_of_units, no_input, shared}
 use Rattle.tilt_live_app.specs.Change.{ShelfChange}
 use Rattle.tilt_live_app.specs.Resumed.{GoesOnFrom}
@@ -11,7 +11,6 @@ use Rattle.tilt_live_app.specs.StateFile.{RefusesState}
 use Rattle.tilt_live_run.specs.declared.run_options.RunOptions.{RunOptions}
 use Rattle.tilt_load.specs.QueryFile.{HasQuery, RefusesQuery, TakesQuery}
 use Rattle.tilt_outside.specs.Faults.{Rose}
-use Rattle.tilt_reading_options.specs.Scales.{missing_among}
 use Rattle.tilt_report.specs.Report.{Reason, out_of_memory, read_fault, refusal}
 use Rattle.tilt_run_state.specs.State.{RunStateParts}
 use Rattle.tilt_syntax.specs.Tree.{StatementTree}
@@ -33,7 +32,7 @@ HasTaken tells bytes (Some scales) query core (Some decimals) = tells → IsLoad
 
 -- The shelf before and after, and the command.
 module _ (shelf : ShelfChange) (command : CommandValue) where
-  -- why its feed isn't begun: its query or the state that it is to go on from isn't taken, or a name in its scales is no input. Or a read
+  -- why its feed isn't begun: its query or the state that it is to go on from isn't taken, or a name in its options is no input. Or a read
   -- failed, or there is no memory
   pub data IsUnbegun : BeginReport → Type 0 where
     refused : {why : Reason} → command.units ≡ None → (shelf.tells → RefusesQuery command.query (shelf.held command.query) why)
@@ -41,9 +40,9 @@ module _ (shelf : ShelfChange) (command : CommandValue) where
     refused_in_units : {report : UnitReport} (scales : ScalesValue) → command.units ≡ Some scales
         → (shelf.tells → RefusesUnits command.query (shelf.held command.query) scales report) → IsUnbegun (begin_of_units report)
     unread : Rose shelf.reads_before shelf.reads_after → IsUnbegun (shared (read_fault command.query))
-    unscaled : (query : List StatementTree) (core : CoreParts) (decimals : Option ℕ) (name : List ℕ)
+    misnamed : (query : List StatementTree) (core : CoreParts) (decimals : Option ℕ) (name : List ℕ)
         → HasTaken shelf.tells (shelf.held command.query) command.units query core decimals
-        → missing_among (named_scales command.readings command.units) core.inputs ≡ Some name → IsUnbegun (no_input name)
+        → missing_named command.readings command.units core.inputs ≡ Some name → IsUnbegun (no_input name)
     state_refused : {why : Reason} (file : List ℕ) (query : List StatementTree) (core : CoreParts) (decimals : Option ℕ)
         → command.resume ≡ Some file → HasTaken shelf.tells (shelf.held command.query) command.units query core decimals
         → (shelf.tells → RefusesState query (form_asked command.readings command.asked.watermarks core.inputs) file (shelf.held file) why) → IsUnbegun (shared (refusal why))
@@ -58,7 +57,7 @@ module _ (shelf : ShelfChange) (command : CommandValue) where
     pub core : CoreParts
     pub decimals : Option ℕ
     pub taken : HasTaken shelf.tells (shelf.held command.query) command.units query core decimals
-    pub scaled : IsScaled command core.inputs
+    pub named : NamesInputs command core.inputs
     pub options : RunOptions
     pub asked : options ≡ options_asked command core.inputs decimals
     pub from : Option RunStateParts

@@ -1,6 +1,6 @@
 -- What the program does if no folder is chosen (our own rule).
 use Rattle.std.specs.Prelude.{◌≡◌, ⊤, ℕ, List, [], codes, None, Some, Result, Ok, Err, MatchResult}
-use Rattle.tilt_live_app.specs.Arguments.{CommandValue, IsLiveCommand}
+use Rattle.tilt_live_cli.specs.Arguments.{CommandValue, IsLiveCommand}
 use Rattle.tilt_live_app.specs.BeginReport.{BeginReport, begin_report, line_of_begin, status_of_begin}
 use Rattle.tilt_live_app.specs.Begun.{IsBegun, IsUnbegun}
 use Rattle.tilt_live_app.specs.Change.{IsSaved, IsUnsaved, ShelfChange}

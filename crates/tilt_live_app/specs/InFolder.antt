@@ -10,12 +10,12 @@ use Rattle.tilt_exactly_once.specs.declared.failure.Failure.TheVariants.{Halted,
 use Rattle.tilt_exactly_once.specs.declared.halt.Halt.TheVariants.{ReadFault}
 use Rattle.tilt_exactly_once.specs.declared.plan.Plan.{Plan}
 use Rattle.tilt_exactly_once.specs.declared.refusal.StartError.{StartError}
-use Rattle.tilt_live_app.specs.Arguments.{CommandValue, FolderValue}
+use Rattle.tilt_live_cli.specs.Arguments.{CommandValue, FolderValue}
 use Rattle.tilt_live_app.specs.BeginReport.{BeginReport, line_of_begin, status_of_begin}
 use Rattle.tilt_live_app.specs.Begun.{IsBegun, IsUnbegun}
 use Rattle.tilt_live_app.specs.Change.{ShelfChange}
 use Rattle.tilt_live_app.specs.FolderReport.{end_of, end_of_entering, line_of_end, status_of_end}
-use Rattle.tilt_live_app.specs.declared.arguments.Task.TheVariants.{Position, Serve}
+use Rattle.tilt_live_cli.specs.declared.arguments.Task.TheVariants.{Position, Serve}
 use Rattle.tilt_live_folder.specs.Feeds.{Commits, EndsBadly, Fits, LiveFeed, Rejects, output_for}
 use Rattle.tilt_live_folder.specs.Machines.{IsRunning}
 use Rattle.tilt_live_run.specs.Reported.{Reported}

@@ -1,15 +1,13 @@
-pub mod Arguments
 pub mod Asked
 pub mod BeginReport
 pub mod Begun
 pub mod Change
+pub mod Checking
 pub mod Done
 pub mod FolderReport
 pub mod InFolder
 pub mod Keeping
-pub mod LiveOptions
 pub mod Lived
-pub mod Readings
 pub mod Resumed
 pub mod Served
 pub mod Serving

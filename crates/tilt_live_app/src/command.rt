@@ -1,7 +1,7 @@
 // The program's one call.
 ghost use Rattle.std.specs.Prelude.{◌≡◌, ◌≤◌, ◌↔◌, ℕ, List, None, Some, IfErr, option_map, string_bytes};
 ghost use Rattle.tilt_cli.specs.Command.{texts};
-ghost use Rattle.tilt_live_app.specs.Arguments.{CommandValue, IsLiveCommand, command_value};
+ghost use Rattle.tilt_live_cli.specs.Arguments.{CommandValue, IsLiveCommand, command_value};
 ghost use Rattle.tilt_live_app.specs.Change.{shelf_change};
 ghost use Rattle.tilt_live_app.specs.Keeping.{IsSaveFailure};
 ghost use Rattle.tilt_live_app.specs.Done.{HasDone, HasRun, IsSaving};
@@ -10,7 +10,7 @@ ghost use Rattle.tilt_live_app.specs.Lived.{HasLived};
 ghost use Rattle.tilt_outside.specs.Reads.{OnlyReads};
 ghost use Rattle.tilt_report.specs.Report.{line_of, report_of, status_of};
 
-use crate::arguments::{LiveCommand, read_command};
+use crate::checking::check_query;
 use crate::ended_run::EndedRun;
 use crate::failure::{Failure, Halt};
 use crate::folder_end::report_fault;
@@ -18,6 +18,7 @@ use crate::in_folder::{Lived, obey_in, without_folder};
 use crate::job::load_job;
 use crate::unbegun::report_unbegun;
 use std::alloc::Global;
+use tilt_live_cli::{LiveCommand, read_command};
 use tilt_live_run::Keep;
 use tilt_outside::{Shelf, Sink};
 use tilt_port::Port;
@@ -31,6 +32,11 @@ use tilt_store::{Folder, Folders};
 ///
 /// With `--time COL` the feed is one of readings, and the options from `--name` on say how they are written and what they mean.
 ///
+/// With `--units` the query is in the units of its data, and `--scale` says what the numbers of each input are multiplied by to be whole.
+/// With `--check` the query in units is checked, and no feed is read. The port gets the scales of its inputs, the bounds of its
+/// definitions and the query over whole numbers. `--bounds` says what is known of the inputs. A line on `err` names the first definition
+/// that can leave 64 bits, if one can.
+///
 /// With `--save FILE` the state of the run is saved once the feed has ended by itself and all output was handed on. With `--resume FILE` a
 /// run goes on from such a state. It writes only what is final after it, and its feed goes on with the byte after the last LF that the
 /// state has seen.
@@ -42,8 +48,9 @@ use tilt_store::{Folder, Folders};
 /// of the feed that are committed is written to the port, and nothing is read.
 ///
 /// The status of the result is the one that the program exits with:
-/// - 0: the feed ended, and its state was saved if it was to be; or the position was printed
-/// - 1: the query, the scales of its inputs, the state, the folder or the feed is rejected, or a line is bad and `--strict` is given
+/// - 0: the feed ended, and its state was saved if it was to be; or the position was printed; or the check names no definition
+/// - 1: the query, a name in an option, the state, the folder or the feed is rejected, or a line by `--strict`; or the check names a
+///   definition
 /// - 2: the arguments are no command
 /// - 3: a read failed
 /// - 4: a write or a flush failed
@@ -81,6 +88,11 @@ pub fn live<S: Shelf, F: Folder, D: Folders<F>, P: Port, E: Sink>(
         Ok(command) => command,
         Err(fault) => return without_folder(report_fault(err, &Fault::from(fault))),
     };
+    if let Some(bounds) = &command.check {
+        let scales = command.units().as_ref().unwrap();
+        let status = check_query(alloc, command.query, scales, bounds, shelf, port, err);
+        return without_folder(status);
+    }
     match &command.folder {
         None => without_folder(obey(alloc, &command, shelf, port, err)),
         Some(choice) => obey_in(alloc, &command, choice, shelf, folders, port, err),

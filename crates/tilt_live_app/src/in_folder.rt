@@ -1,6 +1,6 @@
 // A command whose feed is served into a folder.
 ghost use Rattle.std.specs.Prelude.{◌≡◌, ℕ, List, None, Some, IfOk};
-ghost use Rattle.tilt_live_app.specs.Arguments.{choice_value, command_value};
+ghost use Rattle.tilt_live_cli.specs.Arguments.{choice_value, command_value};
 ghost use Rattle.tilt_live_app.specs.Change.{shelf_change};
 ghost use Rattle.tilt_live_app.specs.InFolder.{HasCounted, HasDoneIn, HasPrinted, HasServedIn, IsPrinted, folder_meaning};
 ghost use Rattle.tilt_live_app.specs.InFolder.{folders_change, line_of_served, position_text, status_of_served};
@@ -8,12 +8,12 @@ ghost use Rattle.tilt_live_run.specs.Reported.{Reported};
 ghost use Rattle.tilt_outside.specs.Reads.{OnlyReads};
 ghost use Rattle.tilt_store.specs.Crash.{Only};
 
-use crate::arguments::{FolderChoice, LiveCommand, Task};
 use crate::folder_end::{end_of, end_of_entering, report_end, report_fault};
 use crate::job::load_job;
 use crate::unbegun::report_unbegun;
 use std::alloc::{AllocError as OutOfMemory, Global};
 use tilt_exactly_once::{Failure, Plan, count_committed, serve_feed};
+use tilt_live_cli::{FolderChoice, LiveCommand, Task};
 use tilt_live_folder::{LiveMachine, LiveRecipe};
 use tilt_outside::{Failed, Shelf, Sink};
 use tilt_port::Port;
@@ -167,7 +167,7 @@ fn position_text(alloc: Global, count: u64) -> Result<Vec<u8>, OutOfMemory>
 }
 
 // Writes a text and hands it on.
-fn print<P: Port>(port: &mut P, text: &[u8]) -> Result<(), Failed>
+pub(crate) fn print<P: Port>(port: &mut P, text: &[u8]) -> Result<(), Failed>
     ensures { IsPrinted P.tells (P.transcript port.old) (P.transcript port.new) text.now result }
 {
     port.write(text)?;

@@ -1,8 +1,8 @@
 // What a command reads before its feed: the query with the options of its run, and the state that the run goes on from.
 ghost use Rattle.std.specs.Prelude.{◌≡◌, ℕ, List, Some, IfOk, IfErr, option_map, string_bytes};
 ghost use Rattle.tilt_checkpoint.specs.Valid.{IsAccepted};
-ghost use Rattle.tilt_live_app.specs.Arguments.{command_value};
-ghost use Rattle.tilt_live_app.specs.Asked.{IsScaled, form_asked, options_asked};
+ghost use Rattle.tilt_live_cli.specs.Arguments.{command_value};
+ghost use Rattle.tilt_live_app.specs.Asked.{NamesInputs, form_asked, options_asked};
 ghost use Rattle.tilt_live_app.specs.BeginReport.{begin_report};
 ghost use Rattle.tilt_live_app.specs.Begun.{HasTaken, IsUnbegun};
 ghost use Rattle.tilt_live_app.specs.Change.{shelf_change};
@@ -14,7 +14,6 @@ ghost use Rattle.tilt_report.specs.Report.{out_of_memory, report_of};
 ghost use Rattle.tilt_run_state.specs.Spelling.{opening};
 ghost use Rattle.tilt_types.specs.Checked.{core_of};
 
-use crate::arguments::LiveCommand;
 use crate::loaded::{Loaded, load};
 use crate::run_options::run_options;
 use crate::state_file::load_state;
@@ -22,6 +21,7 @@ use crate::unbegun::Unbegun;
 use std::alloc::Global;
 use tilt_compiler::Accepted;
 use tilt_feed_form::FeedForm;
+use tilt_live_cli::LiveCommand;
 use tilt_live_run::RunOptions;
 use tilt_outside::Shelf;
 use tilt_report::Fault;
@@ -52,7 +52,7 @@ pub(crate) fn load_job<'a, S: Shelf>(
     requires state_lent { (file : List ℕ) → (command_value command.now).resume ≡ Some file → S.lends file }
     ensures taken { IfOk result (λ job. HasTaken S.tells (S.files shelf.old command.now.query.now) (command_value command.now).units
         job.query job.accepted.core job.decimals) }
-    ensures scaled { IfOk result (λ job. IsScaled (command_value command.now) job.accepted.core.inputs) }
+    ensures named { IfOk result (λ job. NamesInputs (command_value command.now) job.accepted.core.inputs) }
     ensures asked { IfOk result (λ job. job.options ≡ options_asked (command_value command.now) job.accepted.core.inputs job.decimals) }
     ensures opening { IfOk result (λ job. job.opening.items ≡ opening job.options.form) }
     ensures goes_on { IfOk result (λ job. GoesOnFrom S.tells (S.files shelf.old) job.query job.options.form

@@ -2,6 +2,8 @@
 //! through the port, is what is final of a query's output while its feed is read. A run can go on from the state that an earlier one saved,
 //! and save its own. Or the output goes into a folder, exactly once.
 //!
+//! With `--check` no feed is read: the query in units is checked, and its bounds are printed, as `specs/Checking` says.
+//!
 //! A feed has rows, or readings if there is a column of times. `specs/Asked` says which run the arguments ask for.
 //!
 //! `specs/Lived` says what the call does: the clause `is` of `live` has a case for each end. If the query was taken, `HasServed` says what
@@ -9,9 +11,8 @@
 //! chosen, `specs/InFolder` says what each crash leaves of it.
 #![tactic(auto)]
 
-mod arguments;
-mod asked;
 mod begin;
+mod checking;
 mod command;
 mod ended_run;
 mod failure;
@@ -20,10 +21,8 @@ mod folder_fault;
 mod in_folder;
 mod job;
 mod law;
-mod live_options;
 mod loaded;
 mod named_line;
-mod reading_texts;
 mod run_options;
 mod serve;
 mod state_file;

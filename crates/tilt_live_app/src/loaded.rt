@@ -1,7 +1,7 @@
 // The query of a command, over whole numbers or in units.
 ghost use Rattle.std.specs.Prelude.{◌≡◌, None, Some, IfOk, IfErr};
 ghost use Rattle.tilt_checkpoint.specs.Valid.{IsAccepted};
-ghost use Rattle.tilt_live_app.specs.Arguments.{CommandValue};
+ghost use Rattle.tilt_live_cli.specs.Arguments.{CommandValue};
 ghost use Rattle.tilt_live_app.specs.BeginReport.{begin_report};
 ghost use Rattle.tilt_live_app.specs.Begun.{HasTaken, IsUnbegun};
 ghost use Rattle.tilt_live_app.specs.Change.{shelf_change};

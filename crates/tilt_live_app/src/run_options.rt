@@ -1,22 +1,22 @@
 // The options of the run that a command asks for.
 ghost use Rattle.std.specs.Prelude.{◌≡◌, ◌<◌, ◌^◌, ℕ, List, None, Some, IfErr, IfOk, length};
-ghost use Rattle.tilt_live_app.specs.Arguments.{command_value};
-ghost use Rattle.tilt_live_app.specs.Asked.{IsScaled, IsUnscaled, display_for, named_scales, options_asked, setup_for, with_decimals};
+ghost use Rattle.tilt_live_cli.specs.Arguments.{command_value};
+ghost use Rattle.tilt_live_app.specs.Asked.{IsMisnamed, NamesInputs, display_for, missing_named, options_asked, setup_for, with_decimals};
 ghost use Rattle.tilt_live_app.specs.BeginReport.{begin_report};
-ghost use Rattle.tilt_reading_options.specs.Scales.{missing_among};
+ghost use Rattle.tilt_reading_options.specs.Form.{missing_input};
 
-use crate::arguments::LiveCommand;
 use crate::unbegun::Unbegun;
 use std::alloc::Global;
 use tilt_feed_form::{FeedForm, ReadingSetup};
 use tilt_input_scales::Scales;
 use tilt_lexer::Name;
+use tilt_live_cli::LiveCommand;
 use tilt_live_run::{Display, RunOptions};
 use tilt_reading_options::{ReadingChoice, check_names};
 use tilt_row_text::{RowStyle, Times};
 
 // The options of the run that a command asks for, on a query with these inputs, whose output has these decimals if it is in units. A name
-// in its scales that is no input is an error.
+// in its options that is no input is an error.
 pub(crate) fn run_options<'a>(
     alloc: Global,
     command: &LiveCommand<'_>,
@@ -24,10 +24,10 @@ pub(crate) fn run_options<'a>(
     decimals: Option<u8>,
 ) -> Result<RunOptions, Unbegun<'a>>
     requires { length inputs.now < 2 ^ 32 }
-    ensures scaled { IfOk result (λ _. IsScaled (command_value command.now) inputs.now) }
+    ensures named { IfOk result (λ _. NamesInputs (command_value command.now) inputs.now) }
     ensures asked { IfOk result (λ options. options ≡ options_asked (command_value command.now) inputs.now decimals) }
-    ensures fault { IfErr result (λ why. IsUnscaled (named_scales (command_value command.now).readings (command_value command.now).units)
-        inputs.now (begin_report why)) }
+    ensures fault { IfErr result (λ why. IsMisnamed (missing_named (command_value command.now).readings
+        (command_value command.now).units inputs.now) (begin_report why)) }
 {
     let Some(choice) = &command.readings else {
         check_scales(&command.units, inputs)?;
@@ -52,8 +52,8 @@ pub(crate) fn run_options<'a>(
 
 // Fails at the first name of a scale that is no input, if a query of rows is in units.
 fn check_scales<'a>(units: &Option<Scales>, inputs: &[Name]) -> Result<(), Unbegun<'a>>
-    ensures scaled { IfOk result (λ _. missing_among (named_scales None units.now) inputs.now ≡ None) }
-    ensures fault { IfErr result (λ why. IsUnscaled (named_scales None units.now) inputs.now (begin_report why)) }
+    ensures named { IfOk result (λ _. missing_named None units.now inputs.now ≡ None) }
+    ensures fault { IfErr result (λ why. IsMisnamed (missing_named None units.now inputs.now) (begin_report why)) }
 {
     let Some(scales) = units else {
         return Ok(());
@@ -104,8 +104,8 @@ fn make_setup<'a>(
 ) -> Result<ReadingSetup, Unbegun<'a>>
     requires { length inputs.now < 2 ^ 32 }
     ensures setup { IfOk result (λ setup. setup ≡ setup_for choice.now inputs.now) }
-    ensures scaled { IfOk result (λ _. missing_among choice.now.scales.named inputs.now ≡ None) }
-    ensures fault { IfErr result (λ why. IsUnscaled choice.now.scales.named inputs.now (begin_report why)) }
+    ensures named { IfOk result (λ _. missing_input choice.now inputs.now ≡ None) }
+    ensures fault { IfErr result (λ why. IsMisnamed (missing_input choice.now inputs.now) (begin_report why)) }
 {
     let (form, options) = choice.form(alloc, inputs)?;
     Ok(ReadingSetup::new(form, options))

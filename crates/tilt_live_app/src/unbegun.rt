@@ -9,6 +9,7 @@ use tilt_lexer::Name;
 use tilt_outside::Sink;
 use tilt_reading_options::FormFault;
 use tilt_report::Fault;
+use tilt_unit_check::CheckFault;
 use tilt_unit_load::UnitLoadFault;
 
 // Why a feed isn't begun.
@@ -18,7 +19,7 @@ pub(crate) enum Unbegun<'a> {
     Shared(Fault<'a>),
     // By a fault of a query in units.
     InUnits(UnitLoadFault<'a>),
-    // The option `--scale` has this name, which is no input of the query.
+    // The option `--scale` or `--bounds` has this name, which is no input of the query.
     NoInput(Name),
 }
 
@@ -54,6 +55,20 @@ impl From<FormFault> for Unbegun<'_> {
         match fault {
             FormFault::NoInput { name } => Unbegun::NoInput(name),
             FormFault::OutOfMemory => Unbegun::Shared(Fault::OutOfMemory),
+        }
+    }
+}
+
+impl<'a> From<CheckFault<'a>> for Unbegun<'a> {
+    ghost use Rattle.std.specs.Prelude.{◌≡◌};
+    ghost use Rattle.tilt_live_app.specs.BeginReport.{begin_report, report_of_check};
+
+    ghost from_gives = { λ fault why. begin_report why ≡ report_of_check fault };
+
+    fn from(fault: CheckFault<'a>) -> Self {
+        match fault {
+            CheckFault::Unloaded(fault) => Unbegun::InUnits(fault),
+            CheckFault::NoInput(name) => Unbegun::NoInput(name),
         }
     }
 }

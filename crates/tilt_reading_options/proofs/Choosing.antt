@@ -1,14 +1,16 @@
 -- The choice, or the first option that is bad, after those that aren't.
 use Rattle.std.proofs.Common.{◌≡◌, Ok, Err, refl}
 use Rattle.tilt_input_scales.specs.Scales.{ScalesValue}
-use Rattle.tilt_reading_options.specs.Choice.{choice_said, chosen, marks_said, meaning_said, scales_said, times_said, titles_said}
+use Rattle.tilt_reading_options.specs.Choice.{choice_said, chosen, conventions_said, marks_said, scales_said, tick_rules_said}
+use Rattle.tilt_reading_options.specs.Choice.{times_said, titles_said}
+use Rattle.tilt_reading_options.specs.Conventions.{ConventionsValue}
 use Rattle.tilt_reading_options.specs.Results.{IsChoice, Says}
 use Rattle.tilt_reading_options.specs.Texts.{TextsValue}
 use Rattle.tilt_reading_lines.specs.Titles.{TitlesValue, titles_of}
 use Rattle.tilt_reading_options.specs.declared.fault.ChoiceFault.{ChoiceFault}
 use Rattle.tilt_reading_options.specs.declared.fault.ChoiceFault.TheVariants.{Bad, OutOfMemory}
 use Rattle.tilt_reading_options.specs.declared.parts.Marks.{Marks}
-use Rattle.tilt_reading_options.specs.declared.parts.Meaning.{Meaning}
+use Rattle.tilt_reading_options.specs.declared.parts.TickRules.{TickRules}
 use Rattle.tilt_reading_options.specs.declared.parts.Times.{Times}
 use Rattle.tilt_reading_options.specs.declared.reading_option.ReadingOption.{ReadingOption}
 
@@ -27,12 +29,19 @@ module _ (texts : TextsValue) where
       bad_scales OutOfMemory e = tt
 
       module _ (scales : ScalesValue) (c : scales_said texts.scale ≡ Ok scales) where
-        pub bad_meaning : (option : ReadingOption) → Err option ≡ meaning_said times.tick texts → choice_said texts ≡ Err option
-        bad_meaning option e = rw (a, ← b, c, ← e) refl
+        pub bad_conventions : (fault : ChoiceFault) → Says {A = ConventionsValue} (λ conventions. conventions) (Err fault) (conventions_said times.tick texts)
+            → IsChoice (Err fault) (choice_said texts)
+        bad_conventions (Bad option) e = rw (a, ← b, c, e) refl
+        bad_conventions OutOfMemory e = tt
 
-        module _ (meaning : Meaning) (d : Ok meaning ≡ meaning_said times.tick texts) where
-          pub bad_marks : (option : ReadingOption) → Err option ≡ marks_said texts → choice_said texts ≡ Err option
-          bad_marks option e = rw (a, ← b, c, ← d, ← e) refl
+        module _ (conventions : ConventionsValue) (d : conventions_said times.tick texts ≡ Ok conventions) where
+          pub bad_rules : (option : ReadingOption) → Err option ≡ tick_rules_said texts → choice_said texts ≡ Err option
+          bad_rules option e = rw (a, ← b, c, d, ← e) refl
 
-          pub all_said : (marks : Marks) → Ok marks ≡ marks_said texts → choice_said texts ≡ Ok (chosen texts titles times scales meaning marks)
-          all_said marks e = rw (a, ← b, c, ← d, ← e) refl
+          module _ (rules : TickRules) (r : Ok rules ≡ tick_rules_said texts) where
+            pub bad_marks : (option : ReadingOption) → Err option ≡ marks_said texts → choice_said texts ≡ Err option
+            bad_marks option e = rw (a, ← b, c, d, ← r, ← e) refl
+
+            pub all_said : (marks : Marks) → Ok marks ≡ marks_said texts
+                → choice_said texts ≡ Ok (chosen texts titles times scales conventions rules marks)
+            all_said marks e = rw (a, ← b, c, d, ← r, ← e) refl

@@ -1,3 +1,3 @@
 pub mod Choosing
-pub mod Repeated
+pub mod Held
 pub mod Splitting

@@ -1,14 +1,14 @@
 -- What the texts of the options say, or the first option that is bad or missing (our own rule).
-use Rattle.std.specs.Prelude.{ℕ, ◌==◌, ℤ, pos, Bool, true, false, if◌then◌else◌, List, [], Option, Some, None, option_map, Result, Ok, Err}
+use Rattle.std.specs.Prelude.{ℕ, ◌==◌, ℤ, pos, if◌then◌else◌, List, [], Option, Some, None, option_map, Result, Ok, Err}
 use Rattle.std.specs.Option.{ok_or}
-use Rattle.tilt_conventions.specs.declared.options.Convention.{Convention}
-use Rattle.tilt_conventions.specs.declared.options.Convention.TheVariants.{Event, Hold}
 use Rattle.tilt_conventions.specs.declared.options.Ties.{Ties}
 use Rattle.tilt_conventions.specs.declared.options.Ties.TheVariants as ties
 use Rattle.tilt_input_scales.specs.Scales.{ScalesValue}
 use Rattle.tilt_reading_lines.specs.declared.rules.Moments.{Moments}
 use Rattle.tilt_reading_lines.specs.declared.rules.Moments.TheVariants as moments
-use Rattle.tilt_reading_options.specs.Duration.{duration_said, ticks_said}
+use Rattle.tilt_reading_options.specs.Conventions.{ConventionsValue}
+use Rattle.tilt_reading_options.specs.Duration.{duration_said}
+use Rattle.tilt_reading_options.specs.Holding.{ages_said, events_said}
 use Rattle.tilt_reading_options.specs.Scales.{scales_read}
 use Rattle.tilt_reading_options.specs.Texts.{TextsValue, parts_of}
 use Rattle.tilt_reading_lines.specs.Titles.TitlesValue.{Named, OfInputs}
@@ -16,7 +16,7 @@ use Rattle.tilt_reading_lines.specs.Titles.{TitlesValue}
 use Rattle.tilt_reading_options.specs.Values.{ChoiceValue}
 use Rattle.tilt_reading_options.specs.Words.{closed_named, delimiter_named, mark_named, ties_named, unit_named}
 use Rattle.tilt_reading_options.specs.declared.parts.Marks.{Marks}
-use Rattle.tilt_reading_options.specs.declared.parts.Meaning.{Meaning}
+use Rattle.tilt_reading_options.specs.declared.parts.TickRules.{TickRules}
 use Rattle.tilt_reading_options.specs.declared.parts.Times.{Times}
 use Rattle.tilt_reading_options.specs.declared.reading_option.ReadingOption.{ReadingOption}
 use Rattle.tilt_reading_options.specs.declared.reading_option.ReadingOption.TheVariants as option
@@ -62,13 +62,6 @@ abbrev pub scales_said : Option (List ℕ) → Result ScalesValue ReadingOption
 scales_said None = Ok (record { named = []; others = 1 })
 scales_said (Some text) = ok_or (scales_read text) option.Scale
 
--- how long a reading holds
-abbrev pub convention_said : Bool → ℕ → Option (List ℕ) → Result Convention ReadingOption
-convention_said true tick None = Ok Event
-convention_said true tick (Some text) = Err option.MaxAge
-convention_said false tick None = Ok (Hold None)
-convention_said false tick (Some text) = ok_or (option_map (λ age. Hold (Some age)) (ticks_said tick text)) option.MaxAge
-
 -- which end of a tick belongs to it
 abbrev pub closed_said : Option (List ℕ) → Result Closed ReadingOption
 closed_said None = Ok closed.Left
@@ -105,13 +98,18 @@ times_said texts = do
   moments ← moments_said texts.unit
   Ok (record { tick = tick; origin = origin; moments = moments })
 
--- what the options of the meaning of readings say, with ticks of a length
-abbrev pub meaning_said : ℕ → TextsValue → Result Meaning ReadingOption
-meaning_said tick texts = do
-  convention ← convention_said texts.event tick texts.max_age
+-- how long the readings of each input hold, with ticks of a length
+abbrev pub conventions_said : ℕ → TextsValue → Result ConventionsValue ReadingOption
+conventions_said tick texts = do
+  held ← ages_said texts.event tick texts.max_age
+  events_said texts.event held texts.events
+
+-- what the options of a tick say
+abbrev pub tick_rules_said : TextsValue → Result TickRules ReadingOption
+tick_rules_said texts = do
   closed ← closed_said texts.closed
   ties ← ties_said texts.ties
-  Ok (record { convention = convention; closed = closed; ties = ties })
+  Ok (record { closed = closed; ties = ties })
 
 -- what the options of the bytes of a line say
 abbrev pub marks_said : TextsValue → Result Marks ReadingOption
@@ -121,13 +119,14 @@ marks_said texts = do
   Ok (record { delimiter = delimiter; mark = mark })
 
 -- the choice that they make together
-abbrev pub chosen : TextsValue → TitlesValue → Times → ScalesValue → Meaning → Marks → ChoiceValue
-chosen texts titles times scales meaning marks = record {
+abbrev pub chosen : TextsValue → TitlesValue → Times → ScalesValue → ConventionsValue → TickRules → Marks → ChoiceValue
+chosen texts titles times scales conventions rules marks = record {
   titles = titles;
   moments = times.moments;
-  clock = record { origin = times.origin; length = times.tick; closed = meaning.closed };
+  clock = record { origin = times.origin; length = times.tick; closed = rules.closed };
   scales = scales;
-  options = record { convention = meaning.convention; ties = meaning.ties };
+  conventions = conventions;
+  ties = rules.ties;
   nulls = nulls_said texts.null;
   skips_empty = texts.skips_empty;
   delimiter = marks.delimiter;
@@ -140,6 +139,7 @@ choice_said texts = do
   titles ← titles_said texts.time texts.name texts.value
   times ← times_said texts
   scales ← scales_said texts.scale
-  meaning ← meaning_said times.tick texts
+  conventions ← conventions_said times.tick texts
+  rules ← tick_rules_said texts
   marks ← marks_said texts
-  Ok (chosen texts titles times scales meaning marks)
+  Ok (chosen texts titles times scales conventions rules marks)

@@ -1,14 +1,19 @@
 -- How the readings of a query's inputs are written, and what they mean, by a choice. The inputs have names, in their order.
-use Rattle.std.specs.Prelude.{ℕ, List, Option, length, map, replicate}
+use Rattle.std.specs.Prelude.{ℕ, List, Option, map}
+use Rattle.std.specs.Option.{option_or}
 use Rattle.tilt_conventions.specs.declared.options.Options.{Options}
+use Rattle.tilt_conventions.specs.declared.options.Ties.{Ties}
 use Rattle.tilt_reading_lines.specs.Rules.{RulesValue}
+use Rattle.tilt_reading_options.specs.Conventions.{ConventionsValue, convention_name, convention_named}
+use Rattle.tilt_reading_options.specs.Parts.{first_missing}
 use Rattle.tilt_reading_options.specs.Scales.{input_with, missing_among}
 use Rattle.tilt_reading_options.specs.Values.{ChoiceValue}
 use Rattle.tilt_reading_text.specs.Form.{FormValue}
 
--- the first name of a scale that is none of the inputs' names
+-- the first name of a scale that is none of the inputs' names, or else the first one of an age or an event
 abbrev pub missing_input : ChoiceValue → List (List ℕ) → Option (List ℕ)
-missing_input choice names = missing_among choice.scales.named names
+missing_input choice names =
+    option_or (missing_among choice.scales.named names) (first_missing convention_name choice.conventions.named names)
 
 -- how texts become readings
 abbrev pub rules_for : ChoiceValue → RulesValue
@@ -29,6 +34,10 @@ form_for choice names = record {
   sources = map (input_with choice.scales) names;
 }
 
+-- what the readings of the input with a name mean
+abbrev pub options_with : ConventionsValue → Ties → List ℕ → Options
+options_with conventions ties name = record { convention = convention_named conventions name; ties = ties }
+
 -- what the readings of each input mean
 abbrev pub options_for : ChoiceValue → List (List ℕ) → List Options
-options_for choice names = replicate (length names) choice.options
+options_for choice names = map (options_with choice.conventions choice.ties) names

@@ -1,6 +1,9 @@
 pub mod Choice
+pub mod Conventions
 pub mod Duration
 pub mod Form
+pub mod Holding
+pub mod Parts
 pub mod Results
 pub mod Scales
 pub mod Texts

@@ -17,7 +17,7 @@ Says plain (Err choice.OutOfMemory) said = ⊤
 abbrev pub IsChoice : Result ChoiceValue ChoiceFault → Result ChoiceValue ReadingOption → Type 0
 IsChoice result said = Says (λ choice. choice) result said
 
--- no name of a scale is missing, or it is the first one that is, unless memory ran out
+-- no name is missing, or it is the first one that is, unless memory ran out
 abbrev pub IsMissing : {A : Type 0} → Result A FormFault → Option (List ℕ) → Type 0
 IsMissing (Ok made) missing = missing ≡ None
 IsMissing (Err (form.NoInput name)) missing = missing ≡ Some name

@@ -17,6 +17,7 @@ pub record TextsValue : Type 0 where
   pub unit : Option (List ℕ)
   pub scale : Option (List ℕ)
   pub event : Bool
+  pub events : Option (List ℕ)
   pub max_age : Option (List ℕ)
   pub closed : Option (List ℕ)
   pub ties : Option (List ℕ)

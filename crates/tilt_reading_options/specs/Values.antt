@@ -1,10 +1,11 @@
 -- What the options say, as plain data.
 use Rattle.std.specs.Prelude.{ℕ, Bool, List, map}
 use Rattle.std.specs.Global.{Vec}
-use Rattle.tilt_conventions.specs.declared.options.Options.{Options}
+use Rattle.tilt_conventions.specs.declared.options.Ties.{Ties}
 use Rattle.tilt_input_scales.specs.Scales.{ScalesValue}
 use Rattle.tilt_reading_lines.specs.Titles.{TitlesValue}
 use Rattle.tilt_reading_lines.specs.declared.rules.Moments.{Moments}
+use Rattle.tilt_reading_options.specs.Conventions.{ConventionsValue}
 use Rattle.tilt_readings.specs.declared.tick.Clock.{Clock}
 
 -- how readings are written, and what they mean
@@ -13,7 +14,8 @@ pub record ChoiceValue : Type 0 where
   pub moments : Moments
   pub clock : Clock
   pub scales : ScalesValue
-  pub options : Options
+  pub conventions : ConventionsValue
+  pub ties : Ties
   pub nulls : List (List ℕ)
   pub skips_empty : Bool
   pub delimiter : ℕ

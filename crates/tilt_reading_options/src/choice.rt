@@ -2,15 +2,17 @@
 ghost use Rattle.tilt_reading_options.specs.Choice.{choice_said};
 ghost use Rattle.tilt_reading_options.specs.Results.{IsChoice};
 
+use crate::conventions::Conventions;
 use crate::fault::{ChoiceFault, FormFault};
-use crate::form::{check_names, copy_titles, make_sources, repeat_options, split_nulls};
+use crate::form::{check_inputs, copy_titles, make_options, make_sources, split_nulls};
 use crate::parts::{
-    copy_nulls, read_marks, read_meaning, read_scales_of, read_times, read_titles, skips_empty,
+    copy_nulls, read_conventions, read_marks, read_scales_of, read_tick_rules, read_times,
+    read_titles, skips_empty,
 };
 use crate::texts::ReadingTexts;
 use std::alloc::Global;
 use std::marker::Model;
-use tilt_conventions::Options;
+use tilt_conventions::{Options, Ties};
 use tilt_input_scales::Scales;
 use tilt_lexer::Name;
 use tilt_reading_lines::{Moments, Rules, Titles};
@@ -24,7 +26,8 @@ pub struct ReadingChoice {
     moments: Moments,
     clock: Clock,
     scales: Scales,
-    options: Options,
+    conventions: Conventions,
+    ties: Ties,
     nulls: Option<String>,
     skips_empty: bool,
     delimiter: u8,
@@ -33,7 +36,6 @@ pub struct ReadingChoice {
 
 impl Model for ReadingChoice {
     ghost use Rattle.std.specs.Prelude.{◌<◌};
-    ghost use Rattle.tilt_conventions.specs.Laws.{HoldsATick};
     ghost use Rattle.tilt_reading_options.specs.Choice.{nulls_said};
     ghost use Rattle.tilt_reading_options.specs.Texts.{given};
     ghost use Rattle.tilt_reading_lines.specs.Titles.{titles_of};
@@ -46,14 +48,15 @@ impl Model for ReadingChoice {
       moments = c.moments;
       clock = c.clock;
       scales = c.scales;
-      options = c.options;
+      conventions = c.conventions;
+      ties = c.ties;
       nulls = nulls_said (given c.nulls);
       skips_empty = c.skips_empty;
       delimiter = c.delimiter;
       mark = c.mark;
     } };
 
-    ghost invariant = { λ c. (0 < c.clock.length) × HoldsATick c.options.convention };
+    ghost invariant = { λ c. 0 < c.clock.length };
 }
 
 /// What the texts of the options say. `Bad` has the first option that is bad or missing, in the order of `ReadingOption`. `OutOfMemory`
@@ -71,7 +74,8 @@ fn choose(alloc: Global, texts: &ReadingTexts) -> Result<ReadingChoice, ChoiceFa
     let titles = read_titles(alloc, texts)?;
     let times = read_times(texts)?;
     let scales = read_scales_of(alloc, texts)?;
-    let meaning = read_meaning(texts, times.tick)?;
+    let conventions = read_conventions(alloc, texts, times.tick)?;
+    let rules = read_tick_rules(texts)?;
     let marks = read_marks(texts)?;
     let nulls = copy_nulls(alloc, texts)?;
     Ok(ReadingChoice {
@@ -80,13 +84,11 @@ fn choose(alloc: Global, texts: &ReadingTexts) -> Result<ReadingChoice, ChoiceFa
         clock: Clock {
             origin: times.origin,
             length: times.tick,
-            closed: meaning.closed,
+            closed: rules.closed,
         },
         scales,
-        options: Options {
-            convention: meaning.convention,
-            ties: meaning.ties,
-        },
+        conventions,
+        ties: rules.ties,
         nulls,
         skips_empty: skips_empty(texts),
         delimiter: marks.delimiter,
@@ -115,8 +117,8 @@ impl ReadingChoice {
     }
 
     /// The form of the lines and the options of each input, for inputs with these names in their order. They are as `ReadingText::new`
-    /// takes them. `NoInput` has the first name in the scales that is no input. `OutOfMemory` comes if memory runs out, and for no other
-    /// reason.
+    /// takes them. `NoInput` has the first name in the texts of options that is no input: in the scales, then in the ages, then in the
+    /// events. `OutOfMemory` comes if memory runs out, and for no other reason.
     pub fn form(
         &self,
         alloc: Global,
@@ -130,12 +132,12 @@ impl ReadingChoice {
         ensures few { IfOk result (λ made. length made.1.items < 2 ^ 32) }
         ensures ages { IfOk result (λ made. HoldTicks made.1.items) }
     {
-        check_names(self.scales.named(), inputs)?;
+        check_inputs(&self.scales, &self.conventions, inputs)?;
         let sources = make_sources(alloc, &self.scales, inputs)?;
         let titles = copy_titles(&self.titles)?;
         let nulls = split_nulls(alloc, &self.nulls)?;
         let rules = Rules::new(self.moments, self.clock, self.mark, nulls, self.skips_empty);
-        let options = repeat_options(alloc, self.options, inputs.len())?;
+        let options = make_options(alloc, &self.conventions, self.ties, inputs)?;
         let form = ReadingForm {
             delimiter: self.delimiter,
             titles,

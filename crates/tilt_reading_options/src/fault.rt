@@ -49,8 +49,8 @@ impl<T: Drop> From<AllocFailed<T>> for ChoiceFault {
 /// Why a choice gives no form.
 #[derive(Debug, Drop, Error)]
 pub enum FormFault {
-    /// The first name in `--scale` that is no input.
-    #[error("a scale of what is no input")]
+    /// The first name in `--scale`, `--max-age` or `--events` that is no input.
+    #[error("an option of what is no input")]
     NoInput { name: Name },
     /// Memory ran out.
     #[error("out of memory")]

@@ -1,19 +1,22 @@
 // The parts of a form.
-ghost use Rattle.std.specs.Prelude.{◌≡◌, ◌++◌, ◌∷◌, [], IfOk, OnOk, Some, map, replicate};
-ghost use Rattle.std.specs.List.{list_any};
-ghost use Rattle.std.specs.Str.{bytes_eq};
+ghost use Rattle.std.specs.Prelude.{◌≡◌, ◌++◌, ◌∷◌, [], IfOk, OnOk, map};
+ghost use Rattle.std.specs.Option.{option_or};
 ghost use Rattle.tilt_reading_feed.specs.Laws.{HoldTicks};
-ghost use Rattle.tilt_conventions.specs.Laws.{HoldsATick};
 ghost use Rattle.tilt_reading_options.specs.Choice.{nulls_said};
+ghost use Rattle.tilt_reading_options.specs.Conventions.{convention_name};
+ghost use Rattle.tilt_reading_options.specs.Form.{options_with};
+ghost use Rattle.tilt_reading_options.specs.Parts.{first_missing};
 ghost use Rattle.tilt_reading_options.specs.Results.{IsMissing};
 ghost use Rattle.tilt_reading_options.specs.Scales.{input_with, missing_among};
 ghost use Rattle.tilt_reading_options.specs.Texts.{given, parts_of};
 ghost use Rattle.tilt_reading_options.specs.Values.{items_of};
 ghost use Rattle.tilt_reading_lines.specs.Titles.{titles_of};
 
+use crate::conventions::Conventions;
 use crate::fault::FormFault;
+use crate::named::check_all;
 use std::alloc::{AllocError as OutOfMemory, Global};
-use tilt_conventions::Options;
+use tilt_conventions::{Options, Ties};
 use tilt_input_scales::{InputScale, Scales};
 use tilt_lexer::Name;
 use tilt_reading_lines::{Source, Titles};
@@ -22,33 +25,20 @@ use tilt_reading_lines::{Source, Titles};
 pub fn check_names(named: &[InputScale], inputs: &[Name]) -> Result<(), FormFault>
     ensures { IsMissing result (missing_among named.now inputs.now) }
 {
-    for at in 0..named.len() {
-        let name = &named[at].name;
-        if !is_among(inputs, name) {
-            return fail_missing(name);
-        }
-    }
-    Ok(())
+    check_all(named, inputs)
 }
 
-// Fails, since a name is missing.
-fn fail_missing(name: &Name) -> Result<(), FormFault>
-    ensures { IsMissing result (Some name.now) }
+// The same of scales, and then of ages and events.
+pub(crate) fn check_inputs(
+    scales: &Scales,
+    conventions: &Conventions,
+    inputs: &[Name],
+) -> Result<(), FormFault>
+    ensures { IsMissing result (option_or (missing_among scales.now.named inputs.now)
+        (first_missing convention_name conventions.now.named inputs.now)) }
 {
-    let name = name.copy()?;
-    Err(FormFault::NoInput { name })
-}
-
-// Whether one of the inputs has a name.
-fn is_among(inputs: &[Name], name: &Name) -> bool
-    ensures { result ≡ list_any (bytes_eq name.now) inputs.now }
-{
-    for at in 0..inputs.len() {
-        if name.bytes() == inputs[at].bytes() {
-            return true;
-        }
-    }
-    false
+    check_all(scales.named(), inputs)?;
+    check_all(conventions.named(), inputs)
 }
 
 // The sources of inputs with these names.
@@ -76,25 +66,22 @@ fn push_source(scales: &Scales, name: &Name, sources: &mut Vec<Source>) -> Resul
     Ok(())
 }
 
-// The same options for each of so many inputs.
-pub(crate) fn repeat_options(
+// The options of inputs with these names.
+pub(crate) fn make_options(
     alloc: Global,
-    options: Options,
-    count: usize,
+    conventions: &Conventions,
+    ties: Ties,
+    inputs: &[Name],
 ) -> Result<Vec<Options>, OutOfMemory>
-    requires { HoldsATick options.convention }
-    ensures each { IfOk result (λ all. all.items ≡ replicate count options) }
+    ensures each { IfOk result (λ all. all.items ≡ map (options_with conventions.now ties) inputs.now) }
     ensures ages { IfOk result (λ all. HoldTicks all.items) }
 {
-    let all = repeat(alloc, options, count)?;
+    let mut all = Vec::new(alloc);
+    for at in 0..inputs.len() {
+        let convention = conventions.find(&inputs[at]);
+        all.push(Options { convention, ties })?;
+    }
     Ok(all)
-}
-
-// Options, repeated this number of times.
-fn repeat(alloc: Global, options: Options, count: usize) -> Result<Vec<Options>, OutOfMemory>
-    ensures { IfOk result (λ all. all.items ≡ replicate count options) }
-{
-    vec![in alloc; options; count]
 }
 
 // The texts without a value.

@@ -1,14 +1,17 @@
 // What each option says, by its text if it is given.
 ghost use Rattle.std.specs.Prelude.{◌≡◌, ◌<◌, IfOk};
-ghost use Rattle.tilt_conventions.specs.Laws.{HoldsATick};
-ghost use Rattle.tilt_reading_options.specs.Choice.{closed_said, convention_said, delimiter_said, mark_beside, mark_said, moments_said};
+ghost use Rattle.tilt_reading_options.specs.Choice.{closed_said, delimiter_said, mark_beside, mark_said, moments_said};
 ghost use Rattle.tilt_reading_options.specs.Choice.{origin_said, scales_said, tick_said, ties_said, titles_said};
+ghost use Rattle.tilt_reading_options.specs.Holding.{ages_said, events_said};
 ghost use Rattle.tilt_reading_options.specs.Results.{Says};
 ghost use Rattle.tilt_reading_options.specs.Texts.{given};
 ghost use Rattle.tilt_reading_lines.specs.Titles.{titles_of};
 
-use crate::duration::{read_duration, read_ticks};
+use crate::conventions::Conventions;
+use crate::duration::read_duration;
 use crate::fault::ChoiceFault;
+use crate::part_reader::take_parts;
+use crate::read_holding::{EventParts, are_events, read_ages};
 use crate::read_scales::read_scales;
 use crate::reading_option::ReadingOption;
 use crate::words::{find_closed, find_delimiter, find_mark, find_ties, find_unit};
@@ -102,24 +105,55 @@ pub fn read_input_scales(alloc: Global, text: &Option<String>) -> Result<Scales,
     }
 }
 
-// How long a reading holds, with ticks of a length.
-pub(crate) fn read_convention(
+// How long readings hold, with ticks of a length, if all of them are events or none is.
+pub(crate) fn read_held(
+    alloc: Global,
     event: bool,
     tick: u64,
-    age: &Option<String>,
-) -> Result<Convention, ReadingOption>
+    ages: &Option<String>,
+) -> Result<Conventions, ChoiceFault>
     requires { 0 < tick }
-    ensures value { result ≡ convention_said event tick (given age.now) }
-    ensures age { IfOk result (λ convention. HoldsATick convention) }
+    ensures { Says (λ conventions. conventions) result (ages_said event tick (given ages.now)) }
 {
-    match age {
-        Some(age) if !event => match read_ticks(age.as_bytes(), tick) {
-            Some(age) => Ok(Convention::Hold { max_age: Some(age) }),
-            None => Err(ReadingOption::MaxAge),
+    match ages {
+        Some(ages) if !event => match read_ages(alloc, ages, tick)? {
+            Some(conventions) => Ok(conventions),
+            None => Err(ChoiceFault::Bad {
+                option: ReadingOption::MaxAge,
+            }),
         },
-        Some(_) => Err(ReadingOption::MaxAge),
-        None if event => Ok(Convention::Event),
-        None => Ok(Convention::Hold { max_age: None }),
+        Some(_) => Err(ChoiceFault::Bad {
+            option: ReadingOption::MaxAge,
+        }),
+        None if event => Ok(Conventions::new(alloc, Convention::Event)),
+        None => Ok(Conventions::new(alloc, Convention::Hold { max_age: None })),
+    }
+}
+
+// The same with the events of a text, if not all readings are events. None of them has an age of its own.
+pub(crate) fn add_events(
+    alloc: Global,
+    event: bool,
+    held: Conventions,
+    events: &Option<String>,
+) -> Result<Conventions, ChoiceFault>
+    ensures { Says (λ conventions. conventions) result (events_said event held (given events.now)) }
+{
+    let Some(events) = events else {
+        return Ok(held);
+    };
+    if event || !are_events(alloc, events)? {
+        return Err(ChoiceFault::Bad {
+            option: ReadingOption::Events,
+        });
+    }
+    let mut conventions = held;
+    if take_parts(alloc, &EventParts, events, &mut conventions)? {
+        Ok(conventions)
+    } else {
+        Err(ChoiceFault::Bad {
+            option: ReadingOption::MaxAge,
+        })
     }
 }
 

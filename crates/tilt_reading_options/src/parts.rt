@@ -1,20 +1,21 @@
 // What the options of one kind say.
 ghost use Rattle.std.specs.Prelude.{◌≡◌, ◌<◌, IfOk};
-ghost use Rattle.tilt_conventions.specs.Laws.{HoldsATick};
-ghost use Rattle.tilt_reading_options.specs.Choice.{marks_said, meaning_said, nulls_said, scales_said, times_said, titles_said};
+ghost use Rattle.tilt_reading_options.specs.Choice.{conventions_said, marks_said, nulls_said, scales_said, tick_rules_said, times_said};
+ghost use Rattle.tilt_reading_options.specs.Choice.{titles_said};
 ghost use Rattle.tilt_reading_options.specs.Results.{Says};
 ghost use Rattle.tilt_reading_options.specs.Texts.{given};
 ghost use Rattle.tilt_reading_lines.specs.Titles.{titles_of};
 
+use crate::conventions::Conventions;
 use crate::fault::ChoiceFault;
 use crate::given::{
-    make_titles, read_closed, read_convention, read_delimiter, read_input_scales, read_mark,
+    add_events, make_titles, read_closed, read_delimiter, read_held, read_input_scales, read_mark,
     read_moments, read_origin, read_tick, read_ties,
 };
 use crate::reading_option::ReadingOption;
 use crate::texts::ReadingTexts;
 use std::alloc::{AllocError as OutOfMemory, Global};
-use tilt_conventions::{Convention, Ties};
+use tilt_conventions::Ties;
 use tilt_input_scales::Scales;
 use tilt_reading_lines::{Moments, Titles};
 use tilt_readings::Closed;
@@ -27,10 +28,9 @@ pub(crate) struct Times {
     pub(crate) moments: Moments,
 }
 
-// What readings mean, and which end belongs to a tick.
+// Which end belongs to a tick, and which of several readings in it counts.
 #[derive(Clone, Copy)]
-pub(crate) struct Meaning {
-    pub(crate) convention: Convention,
+pub(crate) struct TickRules {
     pub(crate) closed: Closed,
     pub(crate) ties: Ties,
 }
@@ -71,20 +71,26 @@ pub(crate) fn read_scales_of(alloc: Global, texts: &ReadingTexts) -> Result<Scal
     read_input_scales(alloc, &texts.scale)
 }
 
-// What the options of the meaning say, with ticks of a length.
-pub(crate) fn read_meaning(texts: &ReadingTexts, tick: u64) -> Result<Meaning, ReadingOption>
+// How long the readings of each input hold, with ticks of a length.
+pub(crate) fn read_conventions(
+    alloc: Global,
+    texts: &ReadingTexts,
+    tick: u64,
+) -> Result<Conventions, ChoiceFault>
     requires { 0 < tick }
-    ensures value { result ≡ meaning_said tick texts.now }
-    ensures age { IfOk result (λ meaning. HoldsATick meaning.convention) }
+    ensures { Says (λ conventions. conventions) result (conventions_said tick texts.now) }
 {
-    let convention = read_convention(texts.event, tick, &texts.max_age)?;
+    let held = read_held(alloc, texts.event, tick, &texts.max_age)?;
+    add_events(alloc, texts.event, held, &texts.events)
+}
+
+// What the options of a tick say.
+pub(crate) fn read_tick_rules(texts: &ReadingTexts) -> Result<TickRules, ReadingOption>
+    ensures { result ≡ tick_rules_said texts.now }
+{
     let closed = read_closed(&texts.closed)?;
     let ties = read_ties(&texts.ties)?;
-    Ok(Meaning {
-        convention,
-        closed,
-        ties,
-    })
+    Ok(TickRules { closed, ties })
 }
 
 // What the options of the bytes of a line say.

@@ -1,10 +1,11 @@
 // From texts to scales.
-ghost use Rattle.std.specs.Prelude.{◌≡◌, [], Some, None, IfOk, OnOk, if◌then◌else◌, option_map};
+ghost use Rattle.std.specs.Prelude.{◌≡◌, IfOk};
 ghost use Rattle.std.specs.Option.{ForSome};
 ghost use Rattle.tilt_input_scales.specs.Scales.{IsInputScale};
-ghost use Rattle.tilt_reading_options.specs.Scales.{has_name, number_said, part_said, parts_after, scales_read, with_part};
-ghost use Rattle.tilt_reading_options.specs.Texts.{parts_of};
+ghost use Rattle.tilt_reading_options.specs.Scales.{number_said, scale_in, scales_read, with_scale};
 
+use crate::named::has_name;
+use crate::part_reader::{PartReader, cut_name, cut_text, take_parts};
 use crate::whole::read_whole;
 use std::alloc::{AllocError as OutOfMemory, Global};
 use tilt_input_scales::{InputScale, Scales};
@@ -13,13 +14,18 @@ use tilt_lexer::Name;
 // The largest scale.
 const GREATEST: u64 = 1_000_000_000_000_000_000;
 
-// The scales that a text says, if it says some.
+// The scales that a text says, if it says some. In a text with names the others have the scale 1.
 pub(crate) fn read_scales(alloc: Global, text: &str) -> Result<Option<Scales>, OutOfMemory>
     ensures { IfOk result (λ scales. scales ≡ scales_read text.now) }
 {
-    match read_number(text) {
-        Some(others) => Ok(Some(Scales::new(alloc, others))),
-        None => read_parts(alloc, text),
+    if let Some(others) = read_number(text) {
+        return Ok(Some(Scales::new(alloc, others)));
+    }
+    let mut scales = Scales::new(alloc, 1);
+    if take_parts(alloc, &ScaleParts, text, &mut scales)? {
+        Ok(Some(scales))
+    } else {
+        Ok(None)
     }
 }
 
@@ -31,60 +37,40 @@ fn read_number(text: &str) -> Option<u64>
     read_whole(text.as_bytes(), GREATEST)
 }
 
-// The scales that the parts of a text say, if each one says one, and no two are of one name. The others have the scale 1.
-fn read_parts(alloc: Global, text: &str) -> Result<Option<Scales>, OutOfMemory>
-    ensures { IfOk result (λ scales. scales
-        ≡ option_map (λ named. record { named = named; others = 1 }) (parts_after [] (parts_of text.now))) }
-{
-    let mut scales = Scales::new(alloc, 1);
-    for part in text.split(',') {
-        if !take_part(alloc, part, &mut scales)? {
-            return Ok(None);
-        }
-    }
-    Ok(Some(scales))
-}
+// Reads the parts NAME=N of scales.
+#[derive(Drop)]
+struct ScaleParts;
 
-// Adds the scale that a part says. Returns `false` if it says none, or if there is one of its name.
-fn take_part(alloc: Global, part: &str, scales: &mut Scales) -> Result<bool, OutOfMemory>
-    ensures named { IfOk result (λ taken. (if taken then Some scales.new.named else None) ≡ with_part scales.old.named part.now) }
-    ensures others { OnOk result (scales.new.others ≡ scales.old.others) }
-{
-    let Some(one) = read_part(alloc, part)? else {
-        return Ok(false);
-    };
-    if has_name(scales.named(), &one.name) {
-        return Ok(false);
+impl PartReader<Scales> for ScaleParts {
+    ghost with_part = { λ _. with_scale };
+
+    fn take_part(
+        &self,
+        alloc: Global,
+        part: &str,
+        table: &mut Scales,
+    ) -> Result<bool, OutOfMemory> {
+        let Some(one) = read_scale(alloc, part)? else {
+            return Ok(false);
+        };
+        if has_name(table.named(), &one.name) {
+            return Ok(false);
+        }
+        table.push(one)?;
+        Ok(true)
     }
-    scales.push(one)?;
-    Ok(true)
 }
 
 // The scale that a part says.
-fn read_part(alloc: Global, part: &str) -> Result<Option<InputScale>, OutOfMemory>
-    ensures said { IfOk result (λ one. one ≡ part_said part.now) }
+fn read_scale(alloc: Global, part: &str) -> Result<Option<InputScale>, OutOfMemory>
+    ensures said { IfOk result (λ one. one ≡ scale_in part.now) }
     ensures bounds { IfOk result (λ one. ForSome one (λ one. IsInputScale one.scale)) }
 {
-    let Some((name, number)) = part.split_once('=') else {
+    let Some(scale) = read_number(cut_text(part)) else {
         return Ok(None);
     };
-    let Some(name) = Name::read(alloc, name.as_bytes())? else {
-        return Ok(None);
-    };
-    match read_number(number) {
-        Some(scale) => Ok(Some(InputScale { name, scale })),
+    match Name::read(alloc, cut_name(part).as_bytes())? {
+        Some(name) => Ok(Some(InputScale { name, scale })),
         None => Ok(None),
     }
-}
-
-// Whether one of the scales has a name.
-fn has_name(named: &[InputScale], name: &Name) -> bool
-    ensures { result ≡ has_name named.now name.now }
-{
-    for at in 0..named.len() {
-        if named[at].name.bytes() == name.bytes() {
-            return true;
-        }
-    }
-    false
 }

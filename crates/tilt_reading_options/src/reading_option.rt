@@ -15,6 +15,8 @@ pub enum ReadingOption {
     Scale,
     /// `--max-age`
     MaxAge,
+    /// `--events`
+    Events,
     /// `--closed`
     Closed,
     /// `--ties`

@@ -18,9 +18,12 @@ pub struct ReadingTexts {
     pub unit: Option<String>,
     /// `--scale`: by what values are multiplied.
     pub scale: Option<String>,
-    /// `--event`: whether a reading holds on its own tick alone.
+    /// `--event`: whether the readings of all inputs hold on their own tick alone.
     pub event: bool,
-    /// `--max-age`: for how long a reading holds at most.
+    /// `--events`: the inputs whose readings hold on their own tick alone, as in `a,b`. It can't be given beside `--event`.
+    pub events: Option<String>,
+    /// `--max-age`: for how long a reading holds at most, in whole ticks: one age for all inputs that hold, or one for each name, as in
+    /// `a=5s,b=1min`. An event has no age.
     pub max_age: Option<String>,
     /// `--closed`: which end of a tick belongs to it.
     pub closed: Option<String>,
@@ -51,6 +54,7 @@ impl Model for ReadingTexts {
       unit = given t.unit;
       scale = given t.scale;
       event = t.event;
+      events = given t.events;
       max_age = given t.max_age;
       closed = given t.closed;
       ties = given t.ties;

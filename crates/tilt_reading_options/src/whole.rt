@@ -5,8 +5,8 @@ ghost use Rattle.tilt_reading_options.specs.Duration.{whole_said};
 
 use tilt_base::read_number;
 
-// The number from 1 to another one that one or more digits spell.
-pub(crate) fn read_whole(text: &[u8], greatest: u64) -> Option<u64>
+/// The number from 1 to another one that one or more digits spell. It is `None` for any other text.
+pub fn read_whole(text: &[u8], greatest: u64) -> Option<u64>
     requires { greatest < 2 ^ 63 }
     ensures value { result ≡ whole_said greatest text.now }
     ensures some { ForSome result (λ number. 0 < number) }

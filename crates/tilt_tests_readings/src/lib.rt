@@ -1,5 +1,5 @@
-//! Tests of single readings: decimals, ticks, numbers since 1970, and dates; of lines of readings; of the events of their feed; and of
-//! whole texts.
+//! Tests of single readings: decimals, ticks, numbers since 1970, and dates; of lines of readings; of the events of their feed; of whole
+//! texts; and of options.
 //!
 //! The expected values are those of Python's modules `decimal` and `datetime`. Ticks are those of `floor` and `ceil` of Python's integers.
 //! The rows of feeds are those that `tilt-data series` writes.
@@ -13,6 +13,8 @@ mod decimals;
 mod feeds;
 #[cfg(test)]
 mod lines;
+#[cfg(test)]
+mod options;
 #[cfg(test)]
 mod rows;
 #[cfg(test)]

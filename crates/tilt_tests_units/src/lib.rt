@@ -7,6 +7,10 @@
 #[cfg(test)]
 mod cases;
 #[cfg(test)]
+mod checking;
+#[cfg(test)]
+mod checks;
+#[cfg(test)]
 mod files;
 #[cfg(test)]
 mod loading;

@@ -21,3 +21,4 @@ pub use fault::BoundFault;
 pub use ill_scaled::IllScaled;
 pub use law::ill_scaled_queries_have_one_statement;
 pub use report::{MagnitudeReport, report_magnitudes};
+pub use text::definition_name;

@@ -141,8 +141,8 @@ pub(crate) fn put_overflow(
     put_two(text, ill.bounds.low, ill.bounds.high)
 }
 
-// The name of the definition with a number.
-fn definition_name(names: &[Name], number: u32) -> &[u8]
+/// The name of the definition with a number, if these are the names of all but the last one: `emit` for that one, which is emitted.
+pub fn definition_name(names: &[Name], number: u32) -> &[u8]
     ensures { result.now ≡ definition_name names.now number }
 {
     let place = number as usize;

@@ -1,7 +1,7 @@
 use Rattle.std.proofs.Common.{ℕ, List, Option, Some, String, Global, refl, ap, sym, ◌∙◌, option_map, string_bytes}
 use Rattle.std.proofs.lemmas.Option.{none-some}
 use Rattle.tilt_live_app.proofs.Ending.{kept-first, rest-first, run-halted, run-kept, run-unkept, takes-first}
-use Rattle.tilt_live_app.specs.Arguments.{command_value}
+use Rattle.tilt_live_cli.specs.Arguments.{command_value}
 use Rattle.tilt_live_app.proofs.command.run.Goals as goal
 
 abbrev file_bytes : Option (String Global) → Option (List ℕ)
@@ -19,7 +19,7 @@ returns-in-Err-serve-clause-is g c =
       core = job.accepted.core;
       decimals = job.decimals;
       taken = c.in-Ok.ensures.taken;
-      scaled = c.in-Ok.ensures.scaled;
+      named = c.in-Ok.ensures.named;
       options = job.options;
       asked = c.in-Ok.ensures.asked;
       from = job.from;
@@ -36,7 +36,7 @@ returns-in-None-clause-is g c =
       core = job.accepted.core;
       decimals = job.decimals;
       taken = c.in-Ok.ensures.taken;
-      scaled = c.in-Ok.ensures.scaled;
+      named = c.in-Ok.ensures.named;
       options = job.options;
       asked = c.in-Ok.ensures.asked;
       from = job.from;
@@ -65,7 +65,7 @@ returns-in-Some-clause-is g c =
       core = job.accepted.core;
       decimals = job.decimals;
       taken = c.in-Ok.ensures.taken;
-      scaled = c.in-Ok.ensures.scaled;
+      named = c.in-Ok.ensures.named;
       options = job.options;
       asked = c.in-Ok.ensures.asked;
       from = job.from;

@@ -1,8 +1,8 @@
 use Rattle.std.proofs.Common.{◌∙◌, ap, arith, sym}
 use Rattle.std.proofs.lemmas.Result.{err_from_is_err_and}
 use Rattle.tilt_core.specs.Core.{CoreParts}
-use Rattle.tilt_live_app.proofs.Living.{scales-unbegun, state-unbegun}
-use Rattle.tilt_live_app.specs.Arguments.{command_value}
+use Rattle.tilt_live_app.proofs.Living.{names-unbegun, state-unbegun}
+use Rattle.tilt_live_cli.specs.Arguments.{command_value}
 use Rattle.tilt_live_app.specs.BeginReport.{begin_report}
 use Rattle.tilt_live_app.specs.Begun.{no_memory}
 use Rattle.tilt_live_run.specs.declared.run_options.RunOptions.{RunOptions}
@@ -18,7 +18,7 @@ returns-in_err-options-clause-fault g c =
     let loaded = c.in_ok-loaded.loaded in
     let inputs = c.inputs-inputs.ensures.names ∙ ap (λ (k : CoreParts). k.inputs) c.core.ensures.value in
     let fault = rw inputs at c.in_err-options.ensures.fault in
-    rw (p.1, p.2) (scales-unbegun g.S.Shelf.tells g.S.Shelf.files g.S.Shelf.read_faults g.S.Shelf.save_faults g.S.Shelf.takes
+    rw (p.1, p.2) (names-unbegun g.S.Shelf.tells g.S.Shelf.files g.S.Shelf.read_faults g.S.Shelf.save_faults g.S.Shelf.takes
     (command_value c.args.command.now) c.args.shelf.now c.load_query_of.new.shelf loaded.query loaded.accepted.core loaded.decimals
     c.in_ok-loaded.ensures.taken (begin_report c.in_err-options.field-0.0) fault)
 
@@ -43,10 +43,10 @@ returns-clause-asked g c =
     let inputs = c.inputs-inputs.ensures.names ∙ ap (λ (k : CoreParts). k.inputs) c.core.ensures.value in
     rw inputs at c.in_ok-options.ensures.asked
 
-pub returns-clause-scaled : goal.returns-clause-scaled
-returns-clause-scaled g c =
+pub returns-clause-named : goal.returns-clause-named
+returns-clause-named g c =
     let inputs = c.inputs-inputs.ensures.names ∙ ap (λ (k : CoreParts). k.inputs) c.core.ensures.value in
-    rw inputs at c.in_ok-options.ensures.scaled
+    rw inputs at c.in_ok-options.ensures.named
 
 pub returns-clause-goes_on : goal.returns-clause-goes_on
 returns-clause-goes_on g c = rw c.in_ok-loaded.ensures.rest.same_files at c.in_ok-from.ensures.goes_on

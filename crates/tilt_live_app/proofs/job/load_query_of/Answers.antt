@@ -1,5 +1,5 @@
 use Rattle.std.proofs.Common.{refl, sym}
-use Rattle.tilt_live_app.specs.Arguments.{command_value}
+use Rattle.tilt_live_cli.specs.Arguments.{command_value}
 use Rattle.tilt_live_app.proofs.job.load_query_of.Goals as goal
 
 pub returns-clause-taken : goal.returns-clause-taken

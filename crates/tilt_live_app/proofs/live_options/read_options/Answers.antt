@@ -1,6 +1,0 @@
-use Rattle.tilt_live_app.specs.LiveOptions.{live_options}
-use Rattle.tilt_live_app.proofs.live_options.read_options.Goals as goal
-
-pub returns : goal.returns
-unfolding live_options
-returns c = c.read.ensures.is

@@ -1,0 +1,2 @@
+mod OneCommand
+mod Settings

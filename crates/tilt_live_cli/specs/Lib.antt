@@ -1,0 +1,3 @@
+pub mod Arguments
+pub mod LiveOptions
+pub mod Readings

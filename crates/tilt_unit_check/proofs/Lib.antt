@@ -1,0 +1,2 @@
+mod Bounding
+mod Unknown

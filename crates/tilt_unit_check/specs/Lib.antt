@@ -1,0 +1,2 @@
+pub mod BoundText
+pub mod Check
