@@ -84,9 +84,9 @@ BINDS = ["q", "x=d/{key}/x.csv", "y=d/{key}/y.csv"]
 
 def test_inputs_of_other_scales_are_told_once(told, tilt):
     lay_out_scales(told, a=("10", "10"), b=("10", "10"))
-    assert told("by", *BINDS) == (0, "key,start,end,value\na,1,2,40\nb,1,2,40\n", "")
+    assert told("by", *BINDS, "--whole") == (0, "key,start,end,value\na,1,2,40\nb,1,2,40\n", "")
     lay_out_scales(told, a=("10", "100"), b=("10", "100"))
-    status, out, err = told("by", *BINDS)
+    status, out, err = told("by", *BINDS, "--whole")
     assert (status, out) == (0, "key,start,end,value\na,1,2,220\nb,1,2,220\n")
     assert err == (
         "tilt-data: note: a, b: the inputs have different scales (x: 10; y: 100): write one --like the other before you add or "
@@ -96,13 +96,18 @@ def test_inputs_of_other_scales_are_told_once(told, tilt):
 
 def test_keys_of_other_scales_are_told(told, tilt):
     lay_out_scales(told, a=("10", "10"), b=("100", "100"), c=("10", "10"))
-    status, out, err = told("by", *BINDS)
+    status, out, err = told("by", *BINDS, "--whole")
     assert status == 0 and out == "key,start,end,value\na,1,2,40\nb,1,2,400\nc,1,2,40\n"
     assert err.splitlines() == [
         f"tilt-data: note: {name}, by key: the inputs have different scales (a: 10; b: 100): write one --like the other "
         "before you add or compare them"
         for name in "xy"
     ]
+
+
+def test_keys_of_other_scales_have_the_same_units(told, tilt):
+    lay_out_scales(told, a=("10", "1"), b=("1", "100"), c=("10", "1"))
+    assert told("by", *BINDS) == (0, "key,start,end,value\na,1,2,4.0\nb,1,2,4.00\nc,1,2,4.0\n", "")
 
 
 def test_a_folder_that_no_key_is_written_as_is_its_own_key(told, tilt):

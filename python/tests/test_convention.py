@@ -13,7 +13,7 @@ from tilt_data.convention import Convention, Options, TextConvention
 from tilt_data.convert import Rule
 from tilt_data.errors import Refused
 from tilt_data.files import Notes
-from tilt_data.frames import ARGUMENTS, RunOptions, bind
+from tilt_data.frames import ARGUMENTS, Inputs, RunOptions
 
 
 def test_the_typed_options_are_the_fields_of_a_convention():
@@ -75,15 +75,13 @@ def test_what_a_convention_of_python_gives_to_each_input():
     pandas = pytest.importorskip("pandas")
     times = pandas.to_datetime(["1970-01-01 00:00:01", "1970-01-01 00:00:03", "1970-01-01 00:00:09"])
     named = {"a": pandas.Series([1.5, None, 2.5], times), "b": pandas.Series([0.25, None, 0.5], times)}
-    own = {"scale": {"a": 10, "b": 100}, "skip_empty": {"a": True}, "event": {"b": True}, "scales": "differ", "output_scale": 1}
-    rows = bind(["a", "b"], named, Convention(max_age={"a": "7s"}, **own))[2]
+    own = {"scale": {"a": 10, "b": 100}, "skip_empty": {"a": True}, "event": {"b": True}}
+    rows = Inputs.of(["a", "b"], named, Convention(max_age={"a": "7s"}, **own)).rows()
     found = {name: b"".join(part.text() for part in parts).decode() for name, parts in rows}
     assert found == {"a": "1,8,15\n9,16,25\n", "b": "1,2,25\n3,4,\n9,10,50\n"}
-    with pytest.raises(Refused, match=r"^the scales differ: scale\['a'\]=10, scale\['b'\]=100; write the series --like each other"):
-        bind(["a", "b"], named, Convention(scale={"a": 10, "b": 100}))
     for option in ("scale", "skip_empty"):
         with pytest.raises(Refused, match=rf"^{option}\['c'\]: no input has this name; there are: a, b$"):
-            bind(["a", "b"], named, Convention(**{option: {"c": 1 if option == "scale" else True}}))
+            Inputs.of(["a", "b"], named, Convention(**{option: {"c": 1 if option == "scale" else True}}))
     for options in ({"scale": {"a": 0}}, {"scale": {"a": "2"}}, {"skip_empty": {"a": 1}}, {"scale": None}):
         with pytest.raises(Refused, match=f"^{next(iter(options))}="):
             Convention(**options)

@@ -139,7 +139,8 @@ def test_readings_become_rows_as_in_series(tilt, live, tmp_path):
     options = ["--tick", "1s", "--origin", "2026-03-01", "--scale", "10", "--max-age", "30s"]
     made = [sys.executable, "-m", "tilt_data", "series", "raw.csv", "--time", "time", *options]
     assert subprocess.run(made, cwd=tmp_path, env=BEGUN, stderr=subprocess.DEVNULL).returncode == 0
-    wanted = run_program(tilt, query, "temp=temp.csv", folder=str(tmp_path))
+    head, *rows = run_program(tilt, query, "temp=temp.csv", folder=str(tmp_path)).splitlines()
+    wanted = "\n".join([head, *(f"{start},{end},{int(value) / 10:.1f}" for start, end, value in (row.split(",") for row in rows)), ""])
     simple(tmp_path, query)
     lines = [f"temp,{at},{value}\n" for at, (_, value) in zip(times, readings)] + [",2026-03-01T02:00:00Z,\n"]
     for part in (lines[:150], lines[150:]):
@@ -155,11 +156,22 @@ def test_inputs_have_scales_of_their_own(tilt, live, tmp_path):
     readings = [("x", 1, "1.5"), ("y", 2, "0.25"), ("x", 3, "NA"), ("x", 10, "2.5"), ("y", 12, "0.5"), ("", 20, "")]
     given = "".join(f"{name},{1772323200 + second},{value}\n" for name, second, value in readings)
     words = ["--tick", "1s", "--origin", "2026-03-01", "--unit", "s", "--scale", "10", "--scale", "y=100", "--hold", "next", "--null", "NA"]
-    assert followed(tmp_path, given, *words)[1:] == ("start,end,value\n2,3,40\n10,12,50\n12,20,75\n", "")
-    words += ["--skip-empty", "--times", "--decimals", "1"]
+    assert followed(tmp_path, given, *words)[1:] == ("start,end,value\n2,3,1.75\n10,12,2.75\n12,20,3.00\n", "")
+    words += ["--skip-empty", "--times"]
     times = [f"2026-03-01T00:00:{second:02}Z" for second in (2, 10, 12, 20)]
-    wanted = "start,end,value\n" + "".join(f"{a},{b},{v}\n" for a, b, v in zip(times, times[1:], ("4.0", "5.0", "7.5")))
+    wanted = "start,end,value\n" + "".join(f"{a},{b},{v}\n" for a, b, v in zip(times, times[1:], ("1.75", "2.75", "3.00")))
     assert done(follow(tmp_path, "--state", "t", *words), given) == (0, wanted, "")
+
+
+def test_inputs_have_ages_of_their_own(tilt, live, tmp_path):
+    simple(tmp_path, "input x; input y; emit x + y over (0, 20];")
+    readings = [("x", 1, 1), ("y", 2, 10), ("x", 7, 2), ("y", 8, 20), ("", 20, "")]
+    given = "".join(f"{name},{1772323200 + second},{value}\n" for name, second, value in readings)
+    words = ["--tick", "1s", "--origin", "2026-03-01", "--unit", "s", "--scale", "1", "--max-age", "x=3s"]
+    # The readings of x are in (1, 4] and (7, 10], and those of y in (2, 8] and (8, 20].
+    assert followed(tmp_path, given, *words)[1:] == ("start,end,value\n2,4,11\n7,8,12\n8,10,22\n", "")
+    # With an age for all others those of y are in (2, 7] and (8, 13].
+    assert done(follow(tmp_path, "--state", "t", *words, "--max-age", "5s"), given) == (0, "start,end,value\n2,4,11\n8,10,22\n", "")
 
 
 def test_a_line_of_any_length_is_one_line(tilt, live, tmp_path):
@@ -424,7 +436,7 @@ def test_a_silent_input_does_not_hold_the_output_back(tilt, live, tmp_path, unit
     process.stdin.write(f"valve,{text(begin)},1\ntemp,{text(begin)},2.5\ntemp,{text(begin + 10)},3.5\n".encode())
     process.stdin.flush()
     first = begin - 1772323200
-    assert [process.stdout.readline().decode() for _ in range(2)] == ["start,end,value\n", f"{first},{first + 10},35\n"]
+    assert [process.stdout.readline().decode() for _ in range(2)] == ["start,end,value\n", f"{first},{first + 10},3.5\n"]
     # Of a line that comes late nothing is taken.
     process.stdin.write(f"temp,{text(begin + 30)},9.5\n".encode())
     status, _, err = done(process)
@@ -432,7 +444,7 @@ def test_a_silent_input_does_not_hold_the_output_back(tilt, live, tmp_path, unit
     # What was sent by the clock is in the feed: one call of the program over it prints the same.
     words = [live, "q", "--time", "time", "--name", "name", "--value", "value", "--tick", "1s", "--origin", "2026-03-01T00:00:00Z"]
     with open(tmp_path / "s" / "feed.0", "rb") as feed:
-        once = subprocess.run([*words, "--scale", "10", *unit], cwd=tmp_path, stdin=feed, capture_output=True)
+        once = subprocess.run([*words, "--units", "--scale", "10", *unit], cwd=tmp_path, stdin=feed, capture_output=True)
     assert once.stdout.decode() == output(tmp_path)
 
 
@@ -520,7 +532,7 @@ USAGE = [
 READING = ["--tick", "1s"]
 FAULTS = [
     ([*READING, "--max-age", "1500ms"], "--max-age 1500ms is no whole number of ticks of 1s"),
-    ([*READING, "--max-age", "x=5s"], "--max-age NAME=..: here all inputs have the same --max-age"),
+    ([*READING, "--max-age", "z=5s"], "--max-age z=..: no input has this name; there are: x"),
     (
         [*READING, "--event", "--max-age", "5s"],
         "--event is a reading of one tick: --hold, --max-age and --until are for readings that hold",
@@ -566,7 +578,7 @@ CHANGES = [
     ["--closed", "right"],
     ["--max-age", "60s"],
 ]
-CHANGES += [["--ties", "first"], ["--null", "-9"], ["--skip-empty"], ["--scale", "x=5"], ["--event"]]
+CHANGES += [["--ties", "first"], ["--null", "-9"], ["--skip-empty"], ["--scale", "x=1000"], ["--event"]]
 
 
 def test_other_options_are_rejected_and_leave_the_folder_as_it_is(tilt, live, tmp_path):

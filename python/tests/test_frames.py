@@ -7,7 +7,6 @@ import os
 import pathlib
 import random
 import subprocess
-import warnings
 
 import pytest
 
@@ -43,7 +42,7 @@ def test_averages_are_those_of_pandas():
 def test_other_reducers_are_those_of_pandas(reducer):
     temp = readings().drop(readings().index[7:25])
     query = f"input temp; emit {reducer}(temp[t-600:t]) over (0, 3600] every 600;"
-    got = run(query, temp.to_frame(), event=True, index="start", output_scale=1 if reducer == "count" else None)
+    got = run(query, temp.to_frame(), event=True, index="start")
     wanted = temp.resample("10min").agg(reducer)[temp.resample("10min").count() > 0]
     assert list(got.index) == list(wanted.index) and [round(value, 6) for value in got["value"]] == [round(value, 6) for value in wanted]
 
@@ -85,7 +84,6 @@ def test_missing_values_and_zones():
         temp,
         origin="2026-03-01T00:00+01:00",
         until="2026-03-01T01:00+01:00",
-        output_scale=1,
     )
     assert list(got.index.left) == [temp.index[3]] and list(got["value"]) == [1] and str(got.index.left.tz) == "Europe/Zurich"
 
@@ -143,71 +141,20 @@ def scaled(name: str, scale: int, closed: str = "left") -> str:
     return f"{name}.csv"
 
 
-def test_inputs_of_other_scales_are_rejected_unless_that_is_meant(tmp_path, monkeypatch):
+def test_inputs_have_scales_of_their_own(tmp_path, monkeypatch):
     monkeypatch.chdir(tmp_path)
     query = "input x; input y; emit x * y over (0, 600];"
     inputs = {"x": scaled("x", 10), "y": scaled("y", 100)}
-    with pytest.raises(
-        Refused, match="^the scales differ: x has 10, y has 100; write the series --like each other, or say scales='differ'"
-    ):
-        run(query, inputs=inputs)
-    with pytest.raises(Refused, match="output_scale=N is needed"):
-        run(query, inputs=inputs, scales="differ")
     # 20.5 * 2.05
-    assert run(query, inputs=inputs, scales="differ", output_scale=1000)["value"].tolist() == [pytest.approx(42.025)]
+    assert run(query, inputs=inputs, exact=True)["value"].tolist() == [decimal.Decimal("42.025")]
+    assert run(query, inputs=inputs, whole=True)["value"].tolist() == [205 * 205]
     series = pandas.Series([20.5], pandas.to_datetime(["2026-03-01"]))
-    with pytest.raises(Refused, match="the scales differ: x has 10, scale=100"):
-        run(query, inputs={"x": "x.csv", "y": series}, scale=100)
-    with pytest.raises(Refused, match="scale=N for the Series is needed"):
-        run("input x; input y; input z; emit x over (0, 600];", inputs={**inputs, "z": series}, scales="differ", output_scale=1)
-    # A Series has the scale of the file: 20.5 * 20.5
-    assert run(query, inputs={"x": "x.csv", "y": series}, output_scale=100)["value"].tolist() == [pytest.approx(420.25)]
-
-
-LOW = "input x; let low = ifnull(x < 90, false); emit x when low over (0, 600];"
-ONE_DECIMAL = pandas.Series([85, 96.5], pandas.date_range("2026-03-01", periods=2, freq="1s"))
-
-
-@pytest.mark.parametrize(
-    "query, note",
-    [
-        (LOW, "90 in the query is 9.0"),
-        ("input x; let limit = -90; emit x when x < limit over (0, 9];", "90 in the query is 9.0"),
-        ("input x; emit count(x[t-9:t]) over (0, 9];", "the output needs output_scale=1"),
-        ("input x; emit 1 when x > 0 over (0, 9];", "1 in the query is 0.1"),
-        ("input x; emit x + 1 over (0, 9];", "1 in the query is 0.1"),
-        ("input x; emit x * x over (0, 9];", "the output needs output_scale=100"),
-        ("input x; emit x when x * x > 8000 over (0, 9];", "8000 in the query is 80.00"),
-        ("input x; emit 100 * x / x over (0, 9];", "the output needs output_scale=1"),
-        ("input x; emit if x > 0 then 7 else x over (0, 9];", "7 in the query is 0.7"),
-    ],
-)
-def test_a_scale_by_the_data_that_changes_a_query_is_a_warning(query, note):
-    with pytest.warns(UserWarning) as caught:
-        run(query, ONE_DECIMAL)
-    assert [str(one.message) for one in caught] == [f"values times 10: {note}; scale=10 says that this is meant"]
-    # It is at the line of the caller, here and of a method.
-    assert [one.filename for one in caught] == [__file__]
-    with pytest.warns(UserWarning) as caught:
-        Query(query).run(ONE_DECIMAL.to_frame("x").assign(key=["a", "b"]), by="key")
-    assert [one.filename for one in caught] == [__file__]
-
-
-@pytest.mark.parametrize(
-    "query, data, options",
-    [
-        (LOW, ONE_DECIMAL, {"scale": 10}),
-        (LOW, ONE_DECIMAL.round(), {}),
-        ("input x; emit x when x > 0 over (0, 9];", ONE_DECIMAL, {}),
-        ("input x; emit avg(x[t-60:t]) / 2 over (0, 9] every 3;", ONE_DECIMAL, {}),
-        ("input x; emit x when count(x[t-60:t]) > 30 over (0, 9];", ONE_DECIMAL, {}),
-        ("input x; emit count(x[t-60:t]) over (0, 9];", ONE_DECIMAL, {"output_scale": 1}),
-    ],
-)
-def test_a_scale_that_changes_nothing_is_no_warning(query, data, options):
-    with warnings.catch_warnings():
-        warnings.simplefilter("error")
-        run(query, data, **options)
+    # 20.5 * 20.5, at the scales 10 and 100
+    assert run(query, inputs={"x": "x.csv", "y": series}, scale=100, exact=True)["value"].tolist() == [decimal.Decimal("420.250")]
+    with pytest.raises(Refused, match=r"^scale\['x'\]=100: the file of the input x has the scale 10$"):
+        run(query, inputs=inputs, scale={"x": 100})
+    with pytest.raises(Refused, match="^the input x: the scale 10000000000000000000 is above 9223372036854775807"):
+        run("input x; emit x over (0, 9];", series, scale=10**19)
 
 
 @pytest.mark.parametrize(
@@ -408,9 +355,7 @@ WRONG = [
     ({"closed": "neither"}, "closed='neither': one of"),
     ({"closed": 1}, "closed=1: one of"),
     ({"ties": "nope"}, "ties='nope': one of 'last', 'first', 'spread', 'refuse' was expected"),
-    ({"scales": "other"}, "scales='other': one of 'same', 'differ' was expected"),
     ({"index": "left"}, "index='left': one of 'interval', 'start', 'end' was expected"),
-    *[({"output_scale": wrong}, f"output_scale={wrong}: a whole number above 0 was expected") for wrong in (0, -5, True, 2.5)],
     *[({"scale": wrong}, f"scale={wrong}: a whole number above 0 or 'auto' was expected") for wrong in (0, -10, True, 2.5)],
     ({"scale": "10"}, "scale='10': a whole number above 0 or 'auto' was expected"),
     ({"event": True, "max_age": "5s"}, "event=True: a reading is an event of one tick"),
@@ -422,13 +367,14 @@ WRONG = [
     ({"skip_empty": 1}, "skip_empty=1: True or False was expected"),
     ({"merge": "no"}, "merge='no': True or False was expected"),
     ({"exact": 0}, "exact=0: True or False was expected"),
+    ({"whole": 1}, "whole=1: True or False was expected"),
     ({"tick": "1D"}, "tick='1D': a whole number above 0 and one of ns us ms s min h d"),
     ({"tick": 5}, "tick=5: a whole number"),
     ({"max_age": "soon"}, "max_age='soon': a whole number"),
     ({"max_age": {"temp": 5}}, "max_age=5: a whole number"),
     ({"origin": "yesterday"}, "origin='yesterday': a time was expected"),
     ({"until": 5}, "until=5: a time was expected"),
-    ({"unit": "s"}, "unit='s': there is no such option; the options are tick, .* by, merge, index, exact, inputs, convention"),
+    ({"unit": "s"}, "unit='s': there is no such option; the options are tick, .* by, merge, index, exact, whole, inputs, convention"),
     ({"convention": {"tick": "1s"}}, "a Convention was expected"),
     ({"by": ["a", "b"]}, r"by=\['a', 'b'\]: a DataFrame with this column was expected"),
     ({"tick": "1ns", "origin": "1000-01-01"}, "the input temp: a time is more than 4000000000000000000 ticks from the origin"),
@@ -442,7 +388,7 @@ def test_a_wrong_argument_is_rejected_in_one_line(options, what):
     assert "\n" not in str(caught.value)
 
 
-@pytest.mark.parametrize("options", [{"closed": "both"}, {"ties": "nope"}, {"output_scale": 0}, {"event": True, "until": "2026-03-02"}])
+@pytest.mark.parametrize("options", [{"closed": "both"}, {"ties": "nope"}, {"scale": 0}, {"event": True, "until": "2026-03-02"}])
 def test_wrong_arguments_of_live_span_and_convention(options):
     for call in (lambda: Query(AVERAGE).live(**{**COMMON, **options}), lambda: span(readings(), **options), lambda: Convention(**options)):
         with pytest.raises(Refused, match=f"^{next(iter(options))}="):

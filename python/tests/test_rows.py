@@ -340,8 +340,8 @@ def test_keys_that_share_a_run_have_what_is_for_one_input(tilt, monkeypatch):
     monkeypatch.setenv("TILT", str(PROGRAM))
     times = pandas.to_datetime(["2026-03-01 00:00:00", "2026-03-01 00:00:01", "2026-03-01 00:00:02"] * 2)
     data = pandas.DataFrame({"x": [1.5, None, 2.5, 4.5, None, None], "y": [0.25, None, 0.5] * 2, "key": list("aaabbb")}, times)
-    options = {"scale": {"x": 10, "y": 100}, "scales": "differ", "output_scale": 100, "skip_empty": {"x": True}, "index": "start"}
-    query = "input x; input y; emit x * 10 + ifnull(y, 0) over (0, 4];"
+    options = {"scale": {"x": 10, "y": 100}, "skip_empty": {"x": True}, "index": "start"}
+    query = "input x; input y; emit x + ifnull(y, 0) over (0, 4];"
     alone_too = run(query, data, by="key", inputs={"y": data[data["key"] == "a"]["y"]}, **options)
     monkeypatch.setattr(Query, "by_runs", alone)
     found = run(query, data, by="key", **options)["value"]

@@ -1380,7 +1380,9 @@ def test_scales_and_conventions_that_differ(here, other, what):
     beside("x.csv", scale=10)
     beside("y.csv", **{"scale": 10, **other})
     found = scale("input x; input y; emit x + y over (0, 10];", {"x": "x.csv", "y": "y.csv"}, "out", workers=1)
-    assert len(found.notes) == 1 and found.notes[0].startswith("note: ") and what in found.notes[0], found.notes
+    whole, note = found.notes
+    assert whole.startswith("note: the query and its outputs are in whole numbers (x times 10, y times ")
+    assert note.startswith("note: ") and what in note
     pathlib.Path("y.csv").write_text(HEADER + "6,8,1\n")
     with pytest.raises(Refused, match=f"^x: .*{what}"):
         scale("input x; emit x over (0, 10];", {"x": ["x.csv", "y.csv"]}, "more", workers=1)

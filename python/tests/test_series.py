@@ -454,6 +454,8 @@ def test_auto_is_one_scale_for_the_columns_that_have_none_of_their_own(told):
         "closed": "left",
         "kind": "hold",
         "scale": 100,
+        "smallest": 2000,
+        "largest": 2050,
         "size": 34,
         "sha256": hashlib.sha256(b"start,end,value\n1,2,2050\n2,3,2000\n").hexdigest(),
     }

@@ -22,7 +22,10 @@ import pytest
 from conftest import PYTHON
 from test_plot import put
 from test_view import WAIT, chart_of, edges, shown_values
+from tilt_data.arrivals import rows_arriving
 from tilt_data.drawn import bands_of
+from tilt_data.errors import Refused
+from tilt_data.files import ValuesAt
 
 HEADER = "start,end,value\n"
 # Seconds for what has to happen.
@@ -293,6 +296,13 @@ def test_two_inputs():
         assert served.ended() == (0, "", "")
 
 
+def test_rows_in_units_have_the_decimals_of_the_scale():
+    lines = ["start,end,value", "0,,-0.25", "0,4,-0.25", "4,6,3.50", "6,7,2"]
+    assert list(rows_arriving("in", lines, ValuesAt(100))) == [(0, None, -25), (0, 4, -25), (4, 6, 350), (6, 7, 2)]
+    with pytest.raises(Refused, match="^in:2: a row start,end,value of whole numbers was expected, not 0,4,0.125$"):
+        list(rows_arriving("in", ["start,end,value", "0,4,0.125"], ValuesAt(100)))
+
+
 @pytest.mark.parametrize(
     "text, what",
     [
@@ -380,7 +390,7 @@ def point_at(browser: Any, tick: float) -> None:
 def test_rows_appear_while_they_arrive(browser):
     put("temp", "0,40,205\n")
     os.mkfifo("pipe")
-    with page_of(browser, "load=-", "+band:high=-", "temp=temp.csv", "+limit:top=pipe", "--like", "temp.csv") as served:
+    with page_of(browser, "load=-", "+band:high=-", "temp=temp.csv", "+limit:top=pipe", "--like", "temp.csv", "--scale", "10") as served:
         assert edges(browser) == (0, 40) and browser.value("document.title") == "load, temp"
         empty = browser.value("document.getElementById('chart').toDataURL()")
         served.write("10,20,-37\n")
@@ -613,7 +623,7 @@ def test_an_address_with_a_place_and_a_zone(browser):
         place=f"#from={start + 10}&to={start + 20}&at={start + 12}",
     ):
         arrived(browser, start + 4000)
-        assert edges(browser) == (start + 10, start + 20) and shown_values(browser)[0][1] == "0.1"
+        assert edges(browser) == (start + 10, start + 20) and shown_values(browser)[0][1] == "1"
         clock = "window.tiltView.page.clock"
         assert browser.value(f"[0n, 3000n].map((after) => {clock}.text({clock}.moment({start}n + after)).slice(-6))") == [
             "+01:00",

@@ -45,10 +45,15 @@ def test_dates_and_decimals(told):
     ]
 
 
-def test_an_output_is_like_a_series(told):
+def test_an_output_has_the_clock_of_a_series_and_its_own_decimals(told):
     put("x", "0,1,205\n", tick=10**6)
-    pathlib.Path("out.csv").write_text("start,end,value\n0,250,7\n")
-    assert table(told, "out.csv", "--like", "x.csv")[1] == ["1970-01-01T00:00:00.000Z", "1970-01-01T00:00:00.250Z", "0.7"]
+    times = ["1970-01-01T00:00:00.000Z", "1970-01-01T00:00:00.250Z"]
+    for value, shown in (("7", "7"), ("-0.70", "-0.70"), ("0.007", "0.007")):
+        pathlib.Path("out.csv").write_text(f"start,end,value\n0,250,{value}\n")
+        assert table(told, "out.csv", "--like", "x.csv")[1] == [*times, shown]
+    assert table(told, "out.csv", "--like", "x.csv", "--scale", "10")[1] == [*times, "0.0007"]
+    pathlib.Path("out.csv").write_text("key,start,end,value\na,0,250,1.50\nb,0,250,3.25\n")
+    assert [row[-1] for row in table(told, "out.csv", "--like", "x.csv", "--merge")[1:]] == ["1.50", "3.25"]
     status, _, err = told("table", "out.csv")
     assert status == 1 and "--like" in err
 
@@ -283,11 +288,27 @@ def test_notes_with_a_scale_that_is_none(told, scale):
 
 
 @pytest.mark.parametrize(
+    "rows, what",
+    [
+        ("0,5,7\n5,6,7.5\n", "out.csv:3: a row start,end,value of whole numbers was expected, not 5,6,7.5"),
+        ("0,5,7.50\n5,6,7.5\n", "out.csv:3: a row start,end,value with 2 decimals was expected, not 5,6,7.5"),
+        ("0,5,7.\n", "out.csv:2: a row start,end,value of whole numbers was expected, not 0,5,7."),
+        ("0,5,7.5.5\n", "out.csv:2: a row start,end,value with 3 decimals was expected, not 0,5,7.5.5"),
+    ],
+)
+def test_all_values_of_an_output_have_as_many_decimals(told, rows, what):
+    put("x", "")
+    pathlib.Path("out.csv").write_text(f"start,end,value\n{rows}")
+    status, _, err = told("table", "out.csv", "--like", "x.csv")
+    assert (status, err) == (1, f"tilt-data: {what}\n")
+
+
+@pytest.mark.parametrize(
     "text, what",
     [
         ('start,end,value\n0,5,7\n5,6,"8', "x.csv:3: a record of CSV was expected: unexpected end of data"),
         ("a,b\n", "x.csv:1: the header start,end,value or key,start,end,value was expected"),
-        ("start,end,value\n0,5,7.5\n", "x.csv:2: a row start,end,value of whole numbers was expected, not 0,5,7.5"),
+        ("start,end,value\n0,5,7\n5,6,7.5\n", "x.csv:3: a row start,end,value of whole numbers was expected, not 5,6,7.5"),
         ("start,end,value\n0,5\n", "x.csv:2: 3 fields were expected as in the header, not 2"),
         ("start,end,value\n0,5,7,8\n", "x.csv:2: 3 fields were expected as in the header, not 4"),
         ("start,end,value\n9,5,1\n", "x.csv:2: rows in order were expected, each with its start below its end"),

@@ -152,8 +152,8 @@ def test_what_is_in_a_page(told):
     assert [series["rows"] for series in fields["series"]] == [3, 4, 2]
     drawn = [[(one["name"], one["form"], one["unit"], one["scale"], one["series"]) for one in panel] for panel in fields["panels"]]
     assert drawn == [
-        [("temp", "step", "°C", "10", 0), ("top", "limit", "", "100", 0), ("alarm", "band", "", "10", 1)],
-        [("trade", "dots", "", "10", 2), ("alarm", "band", "", "10", 1)],
+        [("temp", "step", "°C", "10", 0), ("top", "limit", "", "100", 0), ("alarm", "band", "", "1", 1)],
+        [("trade", "dots", "", "10", 2), ("alarm", "band", "", "1", 1)],
     ]
     # Rows that touch are one episode, and 0 is none.
     assert episodes_in(1) == [(600, 1200), (2000, 2400)] and fields["series"][0]["episodes"] is None
@@ -392,7 +392,7 @@ def test_values_under_the_pointer_are_those_of_the_file(recording, browser):
             texts = [Clock(10**9, 0).text(edge) for edge in (tick, tick + 1)]
             same = texts[0][:11] == texts[1][:11]
             assert times == (f"{texts[0]} \u2013 {texts[1][11:] if same else texts[1]}" if tick in values else "")
-            its = next((str(value / 10) for start, end, value in rows_in("alarm.csv") if start <= tick < end), "no value")
+            its = next((str(value) for start, end, value in rows_in("alarm.csv") if start <= tick < end), "no value")
             assert alarm[:2] == ["alarm", its]
 
 
@@ -451,7 +451,7 @@ def test_a_place_is_in_the_address(recording, browser):
     browser.value(NOTED)
     assert browser.value("location.hash") == place
     opened(browser, place="#from=90000&to=90400&at=90010")
-    assert edges(browser) == (90000, 90400) and shown_values(browser)[1][1] == "0.1"
+    assert edges(browser) == (90000, 90400) and shown_values(browser)[1][1] == "1"
     # What isn't a place changes nothing.
     opened(browser, place="#from=9x&to=%3Cb%3E&at=-")
     assert edges(browser) == (0, 200000)

@@ -17,6 +17,7 @@ from tilt_data.clock import Clock
 from tilt_data.files import Notes
 from tilt_data.forms import fault_of
 from tilt_data.grammar import statements_of
+from tilt_data.hints import unfilled
 from tilt_data.tokens import Faulty, place_of
 from tilt_data.why import Refusal, clashes, placed
 
@@ -252,6 +253,35 @@ def test_why_of_a_query_alone(tilt, tmp_path, monkeypatch, capfd):
     assert "wrong:1:15: " in capfd.readouterr().err
 
 
+@pytest.mark.parametrize(
+    "body, names",
+    [
+        ("let a = x < 9; emit 1 when all(a[t-5:t])", ["a"]),
+        ("let a = ifnull(x < 9, false); emit 1 when all(a[t-5:t])", []),
+        ("let a = ifnull(x, y) < 9; emit 1 when all(a[t-5:t])", ["a"]),
+        ("let a = isnull(x) or isnull(y); emit 1 when all(a[t-5:t])", []),
+        ("let a = true when x < 9; emit 1 when all(a[t-5:t]) and all(a[t-9:t])", ["a"]),
+        ("let a = x < 9; let b = ifnull(a[t-1], true); emit 1 when all(b[t-5:t]) or any(a[t-5:t])", []),
+        ("let n = count(x[t-5:t]); let a = n < 3; emit 1 when all(a[t-5:t])", ["a"]),
+    ],
+)
+def test_missing_values_that_count_as_true_are_hinted_at(body, names):
+    hints = list(unfilled(f"input x; input y; {body} over (0, 10];".encode()))
+    assert [hint.partition("all(")[2].partition("[")[0] for hint in hints] == names
+
+
+def test_why_prints_how_far_a_query_looks_in_time(tilt, tmp_path, monkeypatch, capfd):
+    from tilt_data.cli import main
+
+    monkeypatch.chdir(tmp_path)
+    put(q="input x; input y; input z; emit sum(x[t-120:t+30]) + y over (0, 10];")
+    assert main(["why", "q", "--tick", "30s"]) == 0
+    # The window has the ticks from t - 119 to t + 30, and no other tick of y than t is read.
+    assert capfd.readouterr().out.endswith("x: 3570s back, 15min ahead\ny: 0 back, 0 ahead\n")
+    assert main(["why", "q", "--tick", "soon"]) == 1
+    assert "'soon' is no duration" in capfd.readouterr().err
+
+
 def test_series_of_other_clocks_are_told(tilt, told):
     put(q="input x; input y; emit x + y over (0, 10];", raw="time,x,y\n2026-03-01T00:00:01,1,2\n2026-03-01T00:00:03,1,2\n")
     for name, tick in (("x", "1s"), ("y", "1ms")):
@@ -273,14 +303,14 @@ SCALES = "tilt-data: note: the inputs have different scales (x: 10; y: 100): wri
 def test_series_of_other_scales_are_told(tilt, told):
     put(q="input x; input y; emit x + y over (0, 10];")
     series_of(told, "x", "--scale", "10"), series_of(told, "y", "--scale", "100")
-    status, _, err = told("run", "q", "x=x.csv", "y=y.csv")
+    status, _, err = told("run", "q", "x=x.csv", "y=y.csv", "--whole")
     # The query may be right, as a product is: the status stays that of the program.
     assert (status, err) == (0, SCALES)
     series_of(told, "y", "--scale", "10")
-    assert told("run", "q", "x=x.csv", "y=y.csv")[::2] == (0, "")
+    assert told("run", "q", "x=x.csv", "y=y.csv", "--whole")[::2] == (0, "")
     put(wrong="input x; input y; emit z over (0, 10];")
     series_of(told, "y", "--scale", "100")
-    status, _, err = told("run", "wrong", "x=x.csv", "y=y.csv")
+    status, _, err = told("run", "wrong", "x=x.csv", "y=y.csv", "--whole")
     assert status == 1 and "note" not in err
 
 
@@ -304,8 +334,11 @@ def test_notes_that_dont_describe_their_file_are_told(tilt, told):
     put(q="input x; emit x over (0, 10];")
     series_of(told, "x", "--scale", "10")
     pathlib.Path("x.csv").write_text("start,end,value\n")
-    status, _, err = told("run", "q", "x=x.csv")
+    status, _, err = told("run", "q", "x=x.csv", "--whole")
     assert status == 0 and err.startswith("tilt-data: note: x.csv: it has 16 bytes, and its JSON file describes one of ")
+    # Without its scale nobody knows what the query means in units.
+    status, _, err = told("run", "q", "x=x.csv")
+    assert status == 1 and err.startswith("tilt-data: x.csv: it has 16 bytes, and its JSON file describes one of ")
     # A JSON file that isn't of tilt-data says nothing of the series.
     pathlib.Path("x.json").write_text('{"name": "package"}')
     assert told("run", "q", "x=x.csv")[::2] == (0, "")

@@ -10,7 +10,7 @@ from typing import Iterable, Iterator, NamedTuple
 
 from .clock import TIMES
 from .errors import Refused, note, printable, refused_at
-from .files import HEADER, failing_at, records, row_of, standard_input, whole
+from .files import HEADER, Values, failing_at, records, row_of, standard_input, whole
 
 # A line of more bytes than this is bad.
 LONGEST = 65536
@@ -93,13 +93,13 @@ class Arrivals:
             return Missed(rows, self.number, self.left_out, not self.reading)
 
 
-def read_arrivals(arrivals: Arrivals, series: int, file: str, is_printed: bool) -> None:
+def read_arrivals(arrivals: Arrivals, series: int, file: str, is_printed: bool, values: Values) -> None:
     """Adds the rows of a file as they arrive. What goes wrong is noted as the failure of all."""
     shown = "standard input" if file == "-" else file
     try:
         with contextlib.ExitStack() as stack:
             number = standard_input().fileno() if file == "-" else stack.enter_context(open(file, "rb", buffering=0)).fileno()
-            for row in rows_arriving(shown, lines_arriving(shown, number, is_printed)):
+            for row in rows_arriving(shown, lines_arriving(shown, number, is_printed), values):
                 arrivals.add(series, row)
         arrivals.end()
     except OSError as error:
@@ -133,7 +133,7 @@ def whole_line(shown: str, number: int, line: bytes) -> bytes:
     return line
 
 
-def rows_arriving(shown: str, lines: Iterable[str]) -> Iterator[Arrived]:
+def rows_arriving(shown: str, lines: Iterable[str], values: Values) -> Iterator[Arrived]:
     """The rows of an output with a value. A row without its end is followed by the same row with it."""
     found = records(shown, lines)
     line, header = next(found, (1, []))
@@ -142,8 +142,8 @@ def rows_arriving(shown: str, lines: Iterable[str]) -> Iterator[Arrived]:
     before: int | None = None
     lasting: tuple[int, int | None] | None = None
     for line, record in found:
-        lasts = has_no_end(record)
-        start, end, value = row_of(shown, line, [record[0], str(TIMES), record[2]] if lasts else record, before)
+        lasts = has_no_end(record, values)
+        start, end, value = row_of(shown, line, [record[0], str(TIMES), record[2]] if lasts else record, before, values)
         if lasting is not None and (lasts or (start, value) != lasting):
             raise refused_at(shown, line, f"the row from {lasting[0]} with its end was expected, not {','.join(record)}")
         lasting = (start, value) if lasts else None
@@ -153,11 +153,11 @@ def rows_arriving(shown: str, lines: Iterable[str]) -> Iterator[Arrived]:
             yield start, None if lasts else end, value
 
 
-def has_no_end(record: list[str]) -> bool:
+def has_no_end(record: list[str], values: Values) -> bool:
     """Whether it is a row `start,,value`."""
     try:
         start, end, value = record
-        whole(value)
+        values.read(value)
         return not end and whole(start) < TIMES
     except ValueError:
         return False

@@ -8,19 +8,23 @@ import itertools
 import os
 import re
 import sys
+import tempfile
 from typing import Any, Iterator, NamedTuple
 
 from .clock import Clock
-from .errors import Refused, note, printable
+from .errors import Refused, TiltError, note, printable
 from .files import Notes, keys_and_files, scratch, unsafe, writing
+from .grammar import inputs_in
 from .program import Processes, call
 from .progress import shown
-from .why import bound, clashes, known_notes, refusal_of
+from .running import in_units, readable
+from .units import Overflow, checked, is_in_units, overflow_of_files, scales_of_files
+from .why import bound, clashes, known_notes, refusal_of, text_of
 
 HELP = """Runs a query for each key. An argument NAME=FILE with {key} in FILE names another file for each key. For what `tilt-data series
 --key` writes it is such as temperature=data/{key}/temperature.csv, and for --prefix data/{key}_temperature.csv. The keys are those for
 which the first such file exists. The other inputs are the same for all keys. The output has the key as its first column:
-key,start,end,value."""
+key,start,end,value. Numbers in the query and the output are in the units of the series."""
 
 
 # Where the key is in an argument; all other signs are those of the file.
@@ -28,13 +32,14 @@ KEY = re.compile(r"\{key\}")
 
 
 class Done(NamedTuple):
-    """A key, the file of its output, its status, what was reported, and the arguments of the program."""
+    """A key, the file of its output, its status, what was reported, the arguments of the program, and the decimals of the values."""
 
     key: str
     file: str
     status: int
     told: str
     words: list[str]
+    decimals: int = 0
 
 
 def add(commands: Any) -> None:
@@ -43,6 +48,7 @@ def add(commands: Any) -> None:
     parser.add_argument("binds", nargs="+", metavar="NAME=FILE", help="the series file of an input, with {key} in the place of the key")
     parser.add_argument("--jobs", type=int, default=os.cpu_count() or 1, help="how many queries run at a time (one for each processor)")
     parser.add_argument("--keep-going", action="store_true", help="report a key that is rejected at the end, and print the others")
+    parser.add_argument("--whole", action="store_true", help="the query and its output are in whole numbers, as for `tilt`")
     parser.add_argument("-o", "--out", metavar="FILE", help="the file of the output (standard output)")
     parser.set_defaults(main=main)
 
@@ -52,40 +58,84 @@ def keys_of(pattern: str) -> list[str]:
     return sorted(key for key in keys_and_files(pattern, KEY) if key is not None)
 
 
-def runs(words: list[str], keys: list[str], jobs: int, folder: str) -> Iterator[Done]:
-    """What each key comes to, in the order of the keys; some more than `jobs` are begun at a time, and no more. If the caller stops, the
-    programs that run are killed."""
-    running = Processes()
+class Runs:
+    """The runs of a query for each key. A query in units is translated once for all keys whose series have the same scales."""
 
-    def run(key: str, file: str) -> Done:
-        ours = [word.replace("{key}", key) for word in words]
-        with open(file, "wb") as out:
-            called = call(["run", *ours], out, its=running)
-        return Done(unsafe(key), file, called.status, called.told, ours)
+    def __init__(self, words: argparse.Namespace, folder: str) -> None:
+        self.words, self.folder, self.running = words, folder, Processes()
+        self.path = readable(words.query, folder)
+        self.text = text_of(self.path)
+        self.names = inputs_in(self.text)
+        self.known: dict[tuple[int, ...], tuple[str, int]] = {}
 
-    with concurrent.futures.ThreadPoolExecutor(jobs) as pool:
-        begun: list[concurrent.futures.Future[Done]] = []
+    def files(self, key: str) -> dict[str, str]:
+        return bound([self.path, *(word.replace("{key}", key) for word in self.words.binds)])
+
+    def scales(self, files: dict[str, str]) -> dict[str, int]:
+        return {name: 1 for name in self.names if name in files} if self.words.whole else scales_of_files(self.names, files)
+
+    def overflows(self, keys: list[str]) -> Iterator[Overflow]:
+        """The first overflow of the query, over the numbers of all keys whose series have the same scales."""
+        by_scales: dict[tuple[int, ...], list[dict[str, str]]] = {}
+        for key in keys:
+            with contextlib.suppress(Refused):
+                files = self.files(key)
+                by_scales.setdefault(tuple(self.scales(files).values()), []).append(files)
+        for each in by_scales.values():
+            overflow = overflow_of_files(self.path, self.scales(each[0]), each)
+            if overflow is not None:
+                yield overflow
+
+    def whole(self, files: dict[str, str]) -> tuple[str, int]:
+        """The file of the query over whole numbers, if its inputs have these files, and the decimals of its output."""
+        scales = self.scales(files)
+        if self.words.whole or not is_in_units(self.text, scales.values()):
+            return self.path, 0
+        given = tuple(scales.values())
+        if given not in self.known:
+            found = checked(self.path, scales, name=self.words.query)
+            self.known[given] = found.put(tempfile.mkdtemp(dir=self.folder)), found.decimals
+        return self.known[given]
+
+    def run(self, number: int, key: str) -> Done:
+        """Runs the query for a key. A thread calls it."""
+        binds, file = [word.replace("{key}", key) for word in self.words.binds], os.path.join(self.folder, str(number))
         try:
-            for at, key in enumerate(keys):
-                begun.append(pool.submit(run, key, os.path.join(folder, str(at))))
-                if len(begun) > 2 * jobs:
+            query, decimals = self.whole(self.files(key))
+        except Refused as refused:
+            line = refused.line if isinstance(refused, TiltError) else str(refused)
+            return Done(unsafe(key), file, refused.status, line, [self.path, *binds])
+        with open(file, "wb") as out:
+            called = call(["run", query, *binds], out, its=self.running)
+        return Done(unsafe(key), file, called.status, called.told, [self.path, *binds], decimals)
+
+    def all(self, keys: list[str]) -> Iterator[Done]:
+        """What each key comes to, in the order of the keys; some more than `jobs` are begun at a time, and no more. If the caller stops,
+        the programs that run are killed."""
+        jobs: int = self.words.jobs
+        with concurrent.futures.ThreadPoolExecutor(jobs) as pool:
+            begun: list[concurrent.futures.Future[Done]] = []
+            try:
+                for number, key in enumerate(keys):
+                    begun.append(pool.submit(self.run, number, key))
+                    if len(begun) > 2 * jobs:
+                        yield begun.pop(0).result()
+                while begun:
                     yield begun.pop(0).result()
-            while begun:
-                yield begun.pop(0).result()
-        except BaseException:
-            pool.shutdown(wait=False, cancel_futures=True)
-            running.stop()
-            raise
+            except BaseException:
+                pool.shutdown(wait=False, cancel_futures=True)
+                self.running.stop()
+                raise
 
 
-def differences(binds: list[str], keys: list[str]) -> Iterator[str]:
+def differences(words: argparse.Namespace, keys: list[str]) -> Iterator[str]:
     """What the notes of the inputs differ in, for each key and from key to key: each difference once, with the first keys that have it."""
     within: dict[str, list[str]] = {}
     across: dict[str, dict[tuple[Clock, int], tuple[str, Notes]]] = {}
     for key in keys:
         texts: list[str] = []
-        known = known_notes(bound(["query", *(word.replace("{key}", key) for word in binds)]), texts)
-        for text in [*texts, clashes(known)]:
+        known = known_notes(bound(["query", *(word.replace("{key}", key) for word in words.binds)]), texts)
+        for text in [*texts, clashes(known, words.whole)]:
             if text is not None:
                 within.setdefault(text, []).append(unsafe(key))
         for name, notes in known.items():
@@ -93,7 +143,7 @@ def differences(binds: list[str], keys: list[str]) -> Iterator[str]:
     for text, some in within.items():
         yield f"{', '.join(some[:3])}{', ..' if len(some) > 3 else ''}: {text}"
     for name, found in across.items():
-        difference = clashes(dict(found.values()))
+        difference = clashes(dict(found.values()), words.whole)
         if difference is not None:
             yield f"{name}, by key: {difference}"
 
@@ -114,7 +164,10 @@ def main(words: argparse.Namespace) -> int:
     refused = []
     with scratch() as folder, writing(words.out) as out:
         out.write("key,start,end,value\n")
-        for done in shown(runs([words.query, *words.binds], keys, words.jobs, folder), "keys", len(keys)):
+        runs = Runs(words, folder)
+        for overflow in runs.overflows(keys):
+            note(f"note: {overflow}")
+        for done in shown(runs.all(keys), "keys", len(keys)):
             if done.status:
                 refused.append(done)
                 if not words.keep_going:
@@ -126,7 +179,7 @@ def main(words: argparse.Namespace) -> int:
             tell(refused)
             raise Refused(f"the key {refused[0].key} was refused: --keep-going prints the others")
     tell(refused)
-    for line in itertools.islice(differences(words.binds, keys), 10):
+    for line in itertools.islice(differences(words, keys), 10):
         note(f"note: {printable(line)}")
     if refused:
         note(f"{len(keys) - len(refused)} keys done, {len(refused)} refused")
@@ -138,7 +191,7 @@ def keyed(done: Done) -> Iterator[str]:
     key = f'"{done.key.replace(chr(34), chr(34) * 2)}"' if re.search(r'[",\r\n]', done.key) else done.key
     with open(done.file, encoding="ascii") as file:
         next(file, None)
-        yield from (f"{key},{line}" for line in file)
+        yield from (f"{key},{line}" for line in in_units(file, done.decimals))
 
 
 def tell(refused: list[Done]) -> None:

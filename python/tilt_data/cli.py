@@ -15,8 +15,9 @@ from typing import Any, Iterator
 from .errors import Refused, note, printable
 
 # The module of each command. A call loads that of its own alone.
-COMMANDS = {"series": "readings", "table": "table", "run": "why", "why": "why", "ticks": "ticks", "by": "by", "scale": "scaling"}
-COMMANDS |= {"feeds": "feeds", "follow": "follow", "plot": "plotting", "view": "view.command", "serve": "serve"}
+COMMANDS = {"series": "readings", "table": "table", "run": "running", "why": "running", "units": "unit_table", "ticks": "ticks"}
+COMMANDS |= {"by": "by", "scale": "scaling", "feeds": "feeds", "follow": "follow", "plot": "plotting", "view": "view.command"}
+COMMANDS |= {"serve": "serve"}
 
 
 def module_of(command: str) -> Any:

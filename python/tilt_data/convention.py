@@ -31,8 +31,6 @@ class Options(TypedDict, total=False):
     until: Time | None
     ties: Literal["last", "first", "spread", "refuse"]
     scale: Factor | Mapping[str, Factor]
-    output_scale: int | None
-    scales: Literal["same", "differ"]
     skip_empty: bool | Mapping[str, bool]
 
 
@@ -47,8 +45,6 @@ class Convention:
     - `until`: the time until which the last reading holds.
     - `ties`: `last`, `first`, `spread` or `refuse`.
     - `scale`: a whole number, or `auto`: that of the files, or the smallest power of ten that makes all values whole.
-    - `output_scale`: divides the values of the output, by default the scale; a count has 1.
-    - `scales`: `same`, or `differ` if inputs of different scales are meant.
     - `skip_empty`: a missing value is no reading, and doesn't end the one before it."""
 
     tick: str | None = None
@@ -59,14 +55,11 @@ class Convention:
     until: Time | None = None
     ties: Literal["last", "first", "spread", "refuse"] = "refuse"
     scale: Factor | Mapping[str, Factor] = "auto"
-    output_scale: int | None = None
-    scales: Literal["same", "differ"] = "same"
     skip_empty: bool | Mapping[str, bool] = False
 
     def __post_init__(self) -> None:
         check_one_of("closed", self.closed, ("left", "right", None))
         check_one_of("ties", self.ties, TIES)
-        check_one_of("scales", self.scales, ("same", "differ"))
         for name in ("event", "skip_empty"):
             for value in values_of(getattr(self, name)):
                 check_flag(name, value)
@@ -79,8 +72,6 @@ class Convention:
         wrong = next((scale for scale in values_of(self.scale) if scale != "auto" and not is_count(scale)), None)
         if wrong is not None or self.scale is None:
             raise Refused(f"scale={wrong!r}: a whole number above 0 or 'auto' was expected")
-        if self.output_scale is not None and not is_count(self.output_scale):
-            raise Refused(f"output_scale={self.output_scale!r}: a whole number above 0 was expected")
         # An event has one tick, so that nothing can be said of how long it holds.
         if self.event is True and (self.max_age is not None or self.until is not None):
             raise Refused("event=True: a reading is an event of one tick; max_age and until are for readings that hold")
@@ -147,7 +138,7 @@ class TextConvention(Convention):
         add("--like", metavar="SERIES", help="take tick, origin and scale from the JSON file beside this series")
         add("--scale", metavar="N", default=[], help=f"values times N are whole{auto}; NAME=N for one series", **several)
         add("--hold", choices=["next"], help="a reading holds until the next one (the default without --event)")
-        longest = f"a reading holds no longer than this, such as 5min{'' if lasting else '; NAME=5min for one series'}"
+        longest = f"a reading holds no longer than this, such as 5min; NAME=5min for one {'input' if lasting else 'series'}"
         add("--max-age", metavar="DURATION", default=[], help=longest, **several)
         if not lasting:
             add("--until", metavar="TIME", help="until when the last reading holds (one tick, or --max-age)")

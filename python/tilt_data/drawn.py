@@ -9,7 +9,7 @@ from typing import Iterable, Iterator
 
 from .clock import TIMES, WHOLE, Clock
 from .errors import Refused
-from .files import Notes, Row, notes_of, rows_in, spooled
+from .files import Notes, Row, Values, notes_of, rows_in, spooled
 
 WORD = re.compile(r"(\+?)(?:(band|limit|dots):)?([^=]+)=(.+)")
 # What no XML file can have, and what no font shows; a line end is allowed.
@@ -18,21 +18,27 @@ UNPRINTABLE = re.compile("[\x00-\x09\x0b-\x1f\x7f-\x9f\ud800-\udfff\ufffe\uffff]
 
 @dataclasses.dataclass
 class Drawn:
-    """What is drawn: a name, its file, how (`step`, `dots`, `limit`, `band`), its clock and scale, its unit, the SHA-256 that its JSON file
-    has, and the copy of the file if it is a pipe."""
+    """What is drawn: a name, its file, how (`step`, `dots`, `limit`, `band`), its clock and what whole numbers are divided by, its unit,
+    the SHA-256 that its JSON file has, how the values of an output are read, and the copy of the file if it is a pipe."""
 
     name: str
     file: str
     form: str
     notes: Notes | None
-    scale: int
+    divisor: int
     unit: str = ""
     sha256: str | None = None
+    values: Values | None = None
     copy: str | None = None
+
+    @property
+    def scale(self) -> int:
+        """The scale of the rows that were read."""
+        return self.divisor * (1 if self.values is None else self.values.scale)
 
     def rows(self) -> Iterator[Row]:
         """The rows of the file. One that the program rejects, and a file that isn't the one of its JSON file, is a Refused."""
-        return rows_in(self.copy or self.file, self.file, self.sha256)
+        return rows_in(self.copy or self.file, self.file, self.sha256, self.values)
 
 
 def add_drawn(parser: argparse.ArgumentParser, has_end: bool = True) -> None:
@@ -42,8 +48,10 @@ def add_drawn(parser: argparse.ArgumentParser, has_end: bool = True) -> None:
     if has_end:
         parser.add_argument("--to", dest="end", metavar="TIME", help="its end")
     parser.set_defaults(end=None)
-    parser.add_argument("--like", metavar="SERIES", help="the series whose clock and scale the files without a JSON file have")
-    parser.add_argument("--scale", action="append", metavar="[NAME=]N", default=[], help="values are divided by N")
+    parser.add_argument("--like", metavar="SERIES", help="the series whose clock the files without a JSON file have")
+    parser.add_argument(
+        "--scale", action="append", metavar="[NAME=]N", default=[], help="values are divided by N: whole numbers as `tilt run` prints them"
+    )
     parser.add_argument("--unit", action="append", metavar="NAME=TEXT", default=[], help="the unit of values, such as temperature=°C")
     parser.add_argument("--zone", help="the time zone of the axis")
     parser.add_argument("--title", help="a title above it")
@@ -89,19 +97,22 @@ def panels_of(words: argparse.Namespace) -> list[list[Drawn]]:
     like = None if words.like is None else notes_of(words.like)
     units, scales = units_of(words.unit), scales_of(words.scale)
     panels: list[list[Drawn]] = []
+    # A file that is drawn twice is read once.
+    values: dict[str, Values] = {}
     for word in words.words:
         found = WORD.fullmatch(word)
         if found is None or found[1] and not panels:
             raise Refused(f"{word!r}: NAME=FILE was expected, and + only after a panel")
         own = notes_of(found[4])
         notes = own or like
-        scale = scales.get(found[3], scales.get("", notes.scale if notes is not None else 1))
+        scale = scales.get(found[3], scales.get("", 1 if own is None else own.scale))
         # What isn't the series itself has its clock alone, and holds.
         form = found[2] or ("dots" if own is not None and own.kind == "event" else "step")
         sha256 = None if own is None else own.sha256
+        read = values.setdefault(found[4], Values()) if own is None else None
         if not found[1]:
             panels.append([])
-        panels[-1].append(Drawn(printable(found[3]), found[4], form, notes, scale, units.get(found[3], ""), sha256))
+        panels[-1].append(Drawn(printable(found[3]), found[4], form, notes, scale, units.get(found[3], ""), sha256, read))
     # An option for a name that isn't drawn would change nothing.
     names = {one.name for panel in panels for one in panel}
     for option, given in (("--scale", list(scales)), ("--unit", list(units))):

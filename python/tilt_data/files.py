@@ -24,7 +24,7 @@ from typing import IO, Any, Callable, Iterable, Iterator
 
 from .clock import TIMES, WHOLE, Clock, Moments, duration_of, duration_text, moment_text
 from .errors import Refused, refused_at
-from .scales import GREATEST, LEAST
+from .scales import GREATEST, LEAST, Scale
 from .version import VERSION
 
 Row = tuple[int, int, "int | None"]
@@ -111,34 +111,35 @@ def records(path: str, file: Iterable[str], delimiter: str = ",") -> Iterator[tu
         raise refused_at(path, ended + 1, f"a record of CSV was expected: {error}") from error
 
 
-def rows_of(path: str, file: Iterable[str]) -> Iterator[Row]:
+def rows_of(path: str, file: Iterable[str], values: Values | None = None) -> Iterator[Row]:
     """The rows of a series or an output, as they come: start, end and value of each, in ticks and whole numbers; null is None. What the
-    program rejects is rejected here too, with its line."""
+    program rejects is rejected here too, with its line. An output in units can have decimals, which `values` reads."""
     found = records(path, file)
     line, header = next(found, (1, []))
     if header != HEADER:
         raise refused_at(path, line, "the header start,end,value was expected")
     before = None
     for line, record in found:
-        row = row_of(path, line, record, before)
+        row = row_of(path, line, record, before, values)
         before = row[1]
         yield row
 
 
-def rows_in(path: str, shown: str | None = None, sha256: str | None = None) -> Iterator[Row]:
+def rows_in(path: str, shown: str | None = None, sha256: str | None = None, values: Values | None = None) -> Iterator[Row]:
     """The rows of a file, as `rows_of` has them. An error while they are written elsewhere isn't reported as a fault of this file."""
     with reading(path, shown, sha256) as file:
-        yield from rows_of(shown or path, file)
+        yield from rows_of(shown or path, file, values)
 
 
-def row_of(path: str, line: int, record: list[str], before: int | None = None) -> Row:
+def row_of(path: str, line: int, record: list[str], before: int | None = None, values: Values | None = None) -> Row:
     """The row of a record, after a row that ends at `before`. It is spelled as the program reads it: three fields of a sign and ASCII
     digits, within 64 bits and the program's times, of which only the value may be empty."""
     try:
         start, end, value = record
-        row = whole(start), whole(end), whole(value) if value else None
+        row = whole(start), whole(end), (whole(value) if values is None else values.read(value)) if value else None
     except ValueError as error:
-        raise refused_at(path, line, f"a row start,end,value of whole numbers was expected, not {','.join(record)}") from error
+        numbers = f"with {values.decimals} decimals" if values is not None and values.decimals else "of whole numbers"
+        raise refused_at(path, line, f"a row start,end,value {numbers} was expected, not {','.join(record)}") from error
     if row[0] < -TIMES or row[1] > TIMES:
         raise refused_at(path, line, f"times from -{TIMES} to {TIMES} were expected, not {start},{end}")
     if row[0] >= row[1] or before is not None and row[0] < before:
@@ -154,6 +155,37 @@ def whole(text: str) -> int:
     if not LEAST <= number <= GREATEST:
         raise ValueError(text)
     return number
+
+
+class Values:
+    """Reads the values of an output: whole numbers, or decimals, as whole numbers and the scale that they have in common."""
+
+    def __init__(self) -> None:
+        self.decimals: int | None = None
+
+    @property
+    def scale(self) -> int:
+        """The scale of the values that were read."""
+        return int(10 ** (self.decimals or 0))
+
+    def read(self, text: str) -> int:
+        """The number of a text. All have as many digits after their point as the first; a ValueError for another text."""
+        front, point, digits = text.partition(".")
+        self.decimals = len(digits) if self.decimals is None else self.decimals
+        if len(digits) != self.decimals or point and not digits.isdigit():
+            raise ValueError(text)
+        return whole(front + digits)
+
+
+class ValuesAt(Values):
+    """Reads the values of an output whose scale is known before its rows are: decimals become whole numbers at it."""
+
+    def __init__(self, scale: int) -> None:
+        super().__init__()
+        self.exact = Scale(scale).exact
+
+    def read(self, text: str) -> int:
+        return self.exact(text) if re.fullmatch(r"-?[0-9]+\.[0-9]+", text, re.ASCII) else whole(text)
 
 
 def spooled(path: str, folder: str) -> str:
@@ -550,11 +582,29 @@ class Stale(Refused):
         super().__init__(f"{series}: {why} ({notes_path(series)}), so its clock and scale aren't known: write the series again")
 
 
+@dataclasses.dataclass
+class Extremes:
+    """The smallest and the largest of some whole numbers, None if there are none."""
+
+    smallest: int | None = None
+    largest: int | None = None
+
+    def take(self, value: int | None) -> None:
+        """Takes one more; None is no number."""
+        if value is not None:
+            self.smallest = value if self.smallest is None or value < self.smallest else self.smallest
+            self.largest = value if self.largest is None or value > self.largest else self.largest
+
+    @property
+    def both(self) -> tuple[int | None, int | None]:
+        return self.smallest, self.largest
+
+
 @dataclasses.dataclass(frozen=True)
 class Notes:
     """What the JSON file beside a series says: its clock, its scale, its convention (`hold`, `event`, or `helper` for what `ticks` writes),
-    its name and key, and the size and the SHA-256 of the CSV, which earlier versions didn't write. The file
-    also has the version that wrote it, which no command reads."""
+    its name and key, its smallest and its largest whole number, if it has values, and the size and the SHA-256 of the CSV. Earlier versions
+    didn't write these four. The file also has the version that wrote it, which no command reads."""
 
     clock: Clock
     scale: int = 1
@@ -562,6 +612,8 @@ class Notes:
     name: str = ""
     key: str | None = None
     zone: str | None = None
+    smallest: int | None = None
+    largest: int | None = None
     size: int | None = None
     sha256: str | None = None
 
@@ -570,7 +622,7 @@ class Notes:
         origin = moment_text(clock.origin, 9 if clock.origin % 10**9 else 0)
         fields = {"tilt-data": 1, "version": VERSION, "name": self.name, "key": self.key, "tick": duration_text(clock.tick)}
         fields |= {"origin": origin, "zone": self.zone, "closed": clock.closed, "kind": self.kind, "scale": self.scale}
-        fields |= {"size": self.size, "sha256": self.sha256}
+        fields |= {"smallest": self.smallest, "largest": self.largest, "size": self.size, "sha256": self.sha256}
         return json_text({name: value for name, value in fields.items() if value is not None})
 
     @staticmethod
@@ -587,7 +639,8 @@ class Notes:
         if clock.closed not in ("left", "right"):
             raise ValueError(f"closed {clock.closed!r}: left or right was expected")
         texts = {name: field(name, str, default) for name, default in DEFAULTS.items()}
-        notes = Notes(clock, field("scale", int), size=field("size", int, None), **texts)
+        numbers = {name: field(name, int, None) for name in ("smallest", "largest", "size")}
+        notes = Notes(clock, field("scale", int), **numbers, **texts)
         if notes.scale < 1:
             raise ValueError("a scale above 0")
         if notes.kind not in KINDS:

@@ -17,16 +17,18 @@ import re
 import select
 import subprocess
 import time
-from typing import IO, Any, Iterator, NamedTuple
+from typing import IO, Any, Iterator, Mapping, NamedTuple
 
 from .arrivals import LONGEST
 from .clock import UNITS, duration_of, moment_text
 from .convention import TextConvention
 from .errors import Refused, note, printable
 from .files import failing_at, locked, standard_input, sync, writing
-from .program import call, inputs_of, program
+from .grammar import inputs_in
+from .program import call, program
 from .sessions import check
 from .version import VERSION
+from .why import text_of
 
 HELP = """Runs a query over lines that keep coming on standard input, such as from `mosquitto_sub`, or in a file. A line is as for
 `tilt-live`, NAME,start,end,value with ticks, or with --tick a reading NAME,time,value. Each row is printed as soon as it is final, and is
@@ -42,10 +44,9 @@ NUMBERS = {
     "lateness": "rows: lines may come out of order by up to N ticks",
     "idle": "rows: no input is more than N ticks behind",
     "ahead": "rows: a line that starts more than N ticks ahead is bad",
-    "decimals": "readings: write values with N decimals",
 }
 OF_ROWS = ("lateness", "idle", "ahead", "end")
-OF_READINGS = ("unit", "origin", "scale", "hold", "max_age", "event", "closed", "null", "skip_empty", "clock", "times", "decimals")
+OF_READINGS = ("unit", "origin", "scale", "hold", "max_age", "event", "closed", "null", "skip_empty", "clock", "times")
 # What earlier versions took, and what to do now.
 GONE = {
     "--rows": "rows are printed as soon as they are final, so leave it out",
@@ -69,6 +70,7 @@ def add(commands: Any) -> None:
     option("--clock", metavar="DURATION", help="readings: each second, all inputs become known up to now less so much")
     option("--begun", action="store_true", help="print also what has begun, as start,,value")
     option("--times", action="store_true", help="readings: write times as dates")
+    option("--whole", action="store_true", help="the query and its output are in whole numbers, as for `tilt`")
     for name, text in NUMBERS.items():
         option(f"--{name}", metavar="N", type=number, help=text)
     TextConvention.add_to(parser, lasting=True)
@@ -102,29 +104,46 @@ def options_of(words: argparse.Namespace) -> list[str]:
                 cure = "it is for rows; readings can end with a time alone, such as ,2026-03-01T07:00:00Z,"
             raise Refused(f"--{name.replace('_', '-')}: {cure}")
     given: dict[str, Any] = {name: getattr(words, name) for name in (*NUMBERS, "begun", "times") if name != "every"} | {
-        "strict": not words.skip_bad
+        "strict": not words.skip_bad,
+        "units": not words.whole,
     }
     if tick is not None:
-        if isinstance(convention.max_age, dict) and any(convention.max_age):
-            raise Refused("--max-age NAME=..: here all inputs have the same --max-age")
-        age = convention.rule("", convention.clock(0)).max_age
         given |= dict(time="time", name="name", value="value", tick=f"{tick}ns", closed=closed, unit=words.unit, event=words.event)
-        given |= {"max-age": age and f"{age * tick}ns", "origin": origin and moment_text(origin, 9), "ties": words.ties}
+        given |= {"max-age": ages_of(words.query, convention, tick), "origin": origin and moment_text(origin, 9), "ties": words.ties}
         given |= {"scale": scales_of(words.query, convention), "null": ",".join(sorted(convention.null)), "skip-empty": words.skip_empty}
     spelled = [[f"--{name}", *([] if value is True else [str(value)])] for name, value in given.items() if value not in (None, False, "")]
     return [word for some in spelled for word in some]
 
 
+def names_with(given: object, query: str, convention: TextConvention) -> list[str]:
+    """The inputs of which each has its own value of an option; one without a name, if all have the same."""
+    if not isinstance(given, dict) or not any(given):
+        return [""]
+    names = inputs_in(text_of(query))
+    if names:
+        convention.check_names(names)
+    return names
+
+
+def of_names(values: Mapping[str, str]) -> str:
+    """A value for all inputs, or one for each name."""
+    return ",".join(f"{name}={value}" if name else value for name, value in values.items())
+
+
+def ages_of(query: str, convention: TextConvention, tick: int) -> str:
+    """How long a reading holds at most: of all inputs, or of each one that has an age."""
+    names = names_with(convention.max_age, query, convention)
+    ages = {name: convention.rule(name, convention.clock(0)).max_age for name in names}
+    return of_names({name: f"{age * tick}ns" for name, age in ages.items() if age is not None})
+
+
 def scales_of(query: str, convention: TextConvention) -> str:
     """The scale of all inputs, or that of each."""
-    named = isinstance(convention.scale, dict) and any(convention.scale)
-    names = inputs_of(query) if named else [""]
-    if named and names:
-        convention.check_names(names)
+    names = names_with(convention.scale, query, convention)
     scales = {name: convention.scale_of(name) for name in names}
     if None in scales.values():
         raise Refused("--scale auto: rows are printed before all data are there, so a whole number above 0 was expected")
-    return ",".join(f"{name}={scale}" if named else f"{scale}" for name, scale in scales.items())
+    return of_names({name: str(scale) for name, scale in scales.items()})
 
 
 class Place(NamedTuple):

@@ -12,19 +12,20 @@ import pathlib
 import re
 import sys
 import warnings
-from typing import TYPE_CHECKING, Any, Iterator, Literal, Mapping, Union, Unpack, get_args
+from typing import TYPE_CHECKING, Any, Callable, Iterator, Literal, Mapping, Union, Unpack, get_args
 
 from . import sessions
 from .clock import TIMES, Clock, duration_of, duration_text, moment_text
 from .convention import Convention, Options, check_flag, check_one_of, convention_of, moment_read
 from .convert import Converter
-from .degrees import scale_notes
 from .errors import Refused, TiltError
 from .files import HEADER_LINE, Notes, Outputs, check_replaceable, notes_of, notes_path, reading, safe, scratch
 from .keys import APART, Alone, Batches, readings_by_key
 from .over import Extent, Over, cut_note, edges_of, over_of
 from .program import REFUSALS, Explained
-from .rows import RowArrays, arrays_in, beyond, fits, output_of, rows_pushed
+from .rows import RowArrays, arrays_in, beyond, fits, marks_in, output_of, rows_pushed
+from .tokens import decimals_in, without_points
+from .units import Checked, Known, checked, counted, is_in_units, longest_window, noted, overflow_of
 from .whole import digits_in, whole_numbers
 
 if TYPE_CHECKING:
@@ -47,6 +48,7 @@ class RunOptions(Options, total=False):
     merge: bool
     index: Index
     exact: bool
+    whole: bool
     inputs: Mapping[str, Any] | None
     convention: Convention | None
 
@@ -80,18 +82,33 @@ class Query:
     @functools.cached_property
     def explained(self) -> Explained:
         with scratch() as folder:
-            return sessions.explained(self.put(folder), self.name)
+            plain = without_points(self.text.encode()).decode()
+            return sessions.explained(self.put(folder), self.put(folder, plain, "plain.tilt"), self.name)
 
     def explain(self) -> Explained:
         """How far it looks and which loops it has; a query that is refused raises a TiltError with the place."""
         return self.explained
 
-    def put(self, folder: str, text: str | None = None) -> str:
+    def put(self, folder: str, text: str | None = None, name: str = "query.tilt") -> str:
         """Writes the query, or a text in its place, to a folder: the path."""
-        path = os.path.join(folder, "query.tilt")
+        path = os.path.join(folder, name)
         with open(path, "w", encoding="utf-8", newline="") as file:
             file.write(self.text if text is None else text)
         return path
+
+    def over_whole(self, inputs: Inputs, is_whole: bool = False) -> Checked:
+        """The query over whole numbers. If a number in it isn't whole at a scale that the data give, they get the scale of all numbers."""
+        text = self.text.encode()
+        if is_whole or not is_in_units(text, inputs.scales.values()):
+            return Checked(self.text)
+        with scratch() as folder:
+            path = self.put(folder)
+            try:
+                return checked(path, inputs.scales, name=self.name)
+            except TiltError as error:
+                if not error.line.startswith("tilt: 114 ") or not inputs.refine(10 ** decimals_in(text)):
+                    raise
+            return checked(path, inputs.scales, name=self.name)
 
     def run(self, data: Any = None, **options: Unpack[RunOptions]) -> pandas.DataFrame:
         """What `tilt run` prints, as a DataFrame with the column `value`; see `run`."""
@@ -105,28 +122,17 @@ class Query:
         if by is not None:
             return self.by_key(data, by, look, convention, named)
         named = {**frame_inputs(data, self.inputs), **named}
+        inputs = Inputs.of(self.inputs, named, convention)
+        whole = self.over_whole(inputs, look.whole)
         with scratch() as folder:
-            shape, scale, rows_of = bind(self.inputs, named, convention)
-            own, files, extents = over_of(self.text), parted(named)[0], dict[str, Extent]()
-            for name, parts in rows_of:
+            own, files, extents = over_of(whole.query), dict(inputs.files), dict[str, Extent]()
+            for name, parts in inputs.rows():
                 extents[name] = Extent(own)
                 files[name] = sessions.put_rows(folder, name, extents[name].texts(parts))
-            if len(extents) == len(files):
-                self.warn_of_scale(convention, scale)
-            text, start, end = self.over_in(own, extents, files, look.over)
+            text, start, end = over_in(whole.query, own, extents, files, look.over)
+            self.warn_of_overflow(inputs, extents, inputs.rows, look.whole)
             rows = self.rows_of_run(folder, text, {name: files[name] for name in self.inputs})
-        return shape.frame(look.kept(rows, start, end), look)
-
-    def over_in(self, own: Over, extents: dict[str, Extent], files: dict[str, str], over: Range | None) -> tuple[str, int, int]:
-        """The query and its `over`, or if that is asked for, the query over all ticks in which the inputs have rows. If it isn't said that
-        the `over` of the query is meant, rows that it leaves out are a warning."""
-        if over == "data":
-            others = [Extent.of(arrays_in(file)) for name, file in files.items() if name not in extents]
-            start, end = own.around(*needed_edges([*extents.values(), *others], "over='data': "))
-            return own.moved(self.text, start, end), start, end
-        if over is None:
-            warn(cut_note(own, extents))
-        return self.text, own.start, own.end
+        return inputs.shape(whole.decimals).frame(look.kept(rows, start, end), look)
 
     def rows_of_run(self, folder: str, text: str, files: dict[str, str]) -> RowArrays:
         """What the program prints for the query with this text over these files; its own are in the folder."""
@@ -138,21 +144,18 @@ class Query:
         """The output for each key of a column; the keys are the first level of the index."""
         keys = keys_of(data, by)
         parts = {name: data[name] for name in self.inputs if name in data.columns and name != by}
-        files, series = parted({**parts, **named})
-        clock, scale = shape_of(files, series, convention)
-        if not files:
-            self.warn_of_scale(convention, scale)
-        # All keys have the scale and the edges of the whole, and its clock unless each has its own.
-        scales = {name: convention.scale_of(name) or scale for name in self.inputs} if isinstance(convention.scale, Mapping) else scale
-        shared: dict[str, Any] = {"tick": duration_text(clock.tick), "closed": clock.closed, "scale": scales}
+        inputs = Inputs.of(self.inputs, {**parts, **named}, convention)
+        whole = self.over_whole(inputs, look.whole)
+        # All keys have the scales and the edges of the whole, and its clock unless each has its own.
+        clock = inputs.clock
+        shared: dict[str, Any] = {"tick": duration_text(clock.tick), "closed": clock.closed, "scale": inputs.scales}
         if look.key_origin == "shared":
             shared["origin"] = moment_text(clock.origin, 9)
         convention = convention_of(convention, shared)
         if keys is not None and not named and list(parts) == self.inputs and parts:
             # What is rejected is found in the order of the keys.
             with contextlib.suppress(Alone, Refused):
-                shape = Shape(clock, zone_in(data.index), int(convention.output_scale or scale))
-                return self.by_batches(data, keys, look, convention, shape)
+                return self.by_batches(data, keys, look, convention, inputs, whole)
         return self.by_runs(data, by, look, convention, named)
 
     def by_runs(self, data: Any, by: str, look: Look, convention: Convention, named: dict[str, Any]) -> pandas.DataFrame:
@@ -162,9 +165,9 @@ class Query:
         found = {key: self.run(part.drop(columns=by), **options) for key, part in data.groupby(by, sort=True, observed=True)}
         return pandas.concat(found, names=[by]) if found else pandas.DataFrame({"value": []})
 
-    def by_batches(self, data: Any, keys: Keys, look: Look, convention: Convention, shape: Shape) -> pandas.DataFrame:
+    def by_batches(self, data: Any, keys: Keys, look: Look, convention: Convention, inputs: Inputs, whole: Checked) -> pandas.DataFrame:
         """Runs over many keys at a time, as `keys.py` says it."""
-        own, clock = over_of(self.text), shape.clock
+        own, clock, shape = over_of(whole.query), inputs.clock, inputs.shape(whole.decimals)
         if own.common is None or not len(keys.keys):
             raise Alone
         bounds, order = readings_by_key(keys.numbers, len(keys.keys))
@@ -185,24 +188,43 @@ class Query:
             there = None if known is None else known[part]
             return RowArrays.joined(rows_of_readings(name, converter, convention, moments[part], numbers[part], there))
 
-        rows = ({name: rows_of(name, part, one) for name in self.inputs} for part, one in zip(parts, clocks))
+        def all_rows() -> Iterator[dict[str, RowArrays]]:
+            return ({name: rows_of(name, part, one) for name in self.inputs} for part, one in zip(parts, clocks))
+
         with scratch() as folder:
             reach = explained.back + APART, explained.ahead + APART
-            batches = Batches(functools.partial(self.run_over, folder, own), reach, own, look.over == "data")
-            outputs = [look.kept(output, one.start, one.end) for one, output in batches.outputs(rows)]
+            batches = Batches(functools.partial(self.run_over, folder, own, whole.query), reach, own, look.over == "data")
+            outputs = [look.kept(output, one.start, one.end) for one, output in batches.outputs(all_rows())]
         if look.over is None:
             warn(cut_note(own, batches.extents))
+        each = ((name, iter([one])) for rows in all_rows() for name, one in rows.items())
+        self.warn_of_overflow(inputs, batches.extents, lambda: each, look.whole)
         shifts = [(one.origin - clock.origin) // clock.tick for one in clocks]
         return shape.keyed(keys, [output.moved(shift) for output, shift in zip(outputs, shifts)], look)
 
-    def run_over(self, folder: str, own: Over, rows: dict[str, RowArrays], over: tuple[int, int]) -> RowArrays:
+    def run_over(self, folder: str, own: Over, text: str, rows: dict[str, RowArrays], over: tuple[int, int]) -> RowArrays:
         files = {name: sessions.put_rows(folder, name, (part.text() for part in one.blocks())) for name, one in rows.items()}
-        return self.rows_of_run(folder, own.moved(self.text, *over), files)
+        return self.rows_of_run(folder, own.moved(text, *over), files)
 
-    def warn_of_scale(self, convention: Convention, scale: int) -> None:
-        """Warns if the data have a scale that the caller didn't give, and it changes what the query means."""
-        notes = scale_notes(self.text, scale, convention.output_scale) if convention.scale == "auto" and scale != 1 else []
-        warn(f"values times {scale}: {'; '.join(notes)}; scale={scale} says that this is meant" if notes else None)
+    def warn_of_overflow(self, inputs: Inputs, extents: Mapping[str, Extent], rows: Callable[[], Rows], is_whole: bool) -> None:
+        """Warns if a value of the query can leave 64 bits, by the numbers of its inputs, and by their rows if they don't exclude it."""
+        both = {name: extent.extremes.both for name, extent in extents.items()}
+        known = {**noted(inputs.files), **{name: Known(least or 0, greatest or 0) for name, (least, greatest) in both.items()}}
+        if not known or len(known) < len(self.inputs):
+            return
+        ticks = longest_window(self.text.encode()) + 1
+
+        def exactly() -> dict[str, Known]:
+            marks = dict.fromkeys(both, 1)
+            for name, parts in rows():
+                marks[name] = max(marks[name], marks_in(parts, ticks))
+            found = {name: known[name]._replace(marks=most, ticks=ticks) for name, most in marks.items()}
+            return {**found, **counted(inputs.files, ticks)}
+
+        with scratch() as folder:
+            scales = dict.fromkeys(known, 1) if is_whole else inputs.scales
+            overflow = overflow_of(self.put(folder), scales, known, exactly)
+        warn(None if overflow is None else str(overflow))
 
     def live(self, convention: Convention | None = None, **options: Unpack[Options]) -> Live:
         """A run by sessions, which takes rows as they come."""
@@ -213,14 +235,17 @@ def run(query: str | os.PathLike[str] | Query, data: Any = None, **options: Unpa
     """Runs a query. The inputs are the columns of `data`, a DataFrame with a DatetimeIndex, or are in `inputs={name: Series or file}`.
 
     A Series with a DatetimeIndex has readings, which become rows by the options of a `Convention`: `tick`, `origin`, `closed`, `event`,
-    `max_age`, `until`, `ties`, `scale`, `output_scale`, `scales` and `skip_empty`. One with an IntervalIndex has rows, and a file is a
+    `max_age`, `until`, `ties`, `scale` and `skip_empty`. One with an IntervalIndex has rows, and a file is a
     series with its JSON file beside it. `by` is a column of keys, `merge` (False) joins equal neighbours, `index` is `interval` (the
     default), `start` or `end`, and `exact` (False) gives Decimals in place of floats. `over="data"` takes all ticks of the data in place of
     the query's `over`, and `over="query"` says that rows outside of it are left out on purpose. `nulls` (False) gives gaps rows without a
     value, and `key_origin="own"` each key the midnight before its first reading as its origin.
 
-    A wrong argument raises `Refused`, and what the program rejects a `TiltError`. It is a warning if the query's `over` leaves rows out;
-    and if the data have a scale that the caller doesn't give, and it changes what a number of the query or the output means.
+    Numbers in the query and the values of the output are in the units of the data, whatever their scale. `whole=True` (False) takes both
+    as whole numbers, the values of the data times their scale.
+
+    A wrong argument raises `Refused`, and what the program rejects a `TiltError`. It is a warning if the query's `over` leaves rows out,
+    or if a value of the query can leave 64 bits.
 
     >>> hours = pandas.Series([1, 2], pandas.to_datetime(["2026-03-01 00:00", "2026-03-01 01:00"]))
     >>> run("input x; emit x over (0, 1];", hours, tick="1h", over="data", index="start")["value"].tolist()
@@ -236,13 +261,13 @@ def span(
     import pandas
 
     convention = convention_of(convention, options, ("inputs", "convention"))
-    convention = dataclasses.replace(convention, output_scale=convention.output_scale or 1)
     frame = data.to_frame("the Series") if isinstance(data, pandas.Series) else data
     named = {**frame_inputs(frame, [] if frame is None else list(frame.columns)), **(inputs or {})}
     # Of a value counts only whether it is there.
     there = {name: one.notna().map({True: 1}) if isinstance(one, pandas.Series) else one for name, one in named.items()}
-    rows = [Extent.of(parts) for _, parts in bind(list(there), there, convention)[2]]
-    return needed_edges([*rows, *(Extent.of(arrays_in(file)) for file in parted(there)[0].values())])
+    found = Inputs.of(list(there), there, convention)
+    rows = [Extent.of(parts) for _, parts in found.rows()]
+    return needed_edges([*rows, *(Extent.of(arrays_in(file)) for file in found.files.values())])
 
 
 def series(
@@ -270,18 +295,32 @@ def series(
 
 def write_series(outputs: Outputs, named: dict[str, Any], paths: Mapping[str, str], convention: Convention) -> None:
     """Writes the Series among some inputs, which have one clock, to files with their notes."""
-    shape, scale, rows = bind(list(named), named, dataclasses.replace(convention, scales="differ", output_scale=1))
-    for name, parts in rows:
+    inputs, extents = Inputs.of(list(named), named, convention), dict[str, Extent]()
+    for name, parts in inputs.rows():
         outputs.write(paths[name], HEADER_LINE.decode())
-        for part in parts:
-            outputs.write(paths[name], part.text().decode())
-    zone = getattr(shape.zone, "key", None) or getattr(shape.zone, "zone", None)
-    for name, one in parted(named)[1].items():
+        extents[name] = Extent()
+        for text in extents[name].texts(parts):
+            outputs.write(paths[name], text.decode())
+    zone = getattr(inputs.zone, "key", None) or getattr(inputs.zone, "zone", None)
+    for name, one in inputs.series.items():
         kind = "event" if convention.is_event(name) and closed_in(name, one.index) is None else "hold"
-        outputs.write(notes_path(paths[name]), Notes(shape.clock, convention.scale_of(name) or scale, kind, name, zone=zone).text())
+        notes = Notes(inputs.clock, inputs.scales[name], kind, name, None, zone, *extents[name].extremes.both)
+        outputs.write(notes_path(paths[name]), notes.text())
 
 
 # Inputs
+
+
+def over_in(text: str, own: Over, extents: dict[str, Extent], files: dict[str, str], over: Range | None) -> tuple[str, int, int]:
+    """A query and its `over`, or if that is asked for, the query over all ticks in which the inputs have rows. If it isn't said that the
+    `over` of the query is meant, rows that it leaves out are a warning."""
+    if over == "data":
+        others = [Extent.of(arrays_in(file)) for name, file in files.items() if name not in extents]
+        start, end = own.around(*needed_edges([*extents.values(), *others], "over='data': "))
+        return own.moved(text, start, end), start, end
+    if over is None:
+        warn(cut_note(own, extents))
+    return text, own.start, own.end
 
 
 def needed_edges(extents: list[Extent], option: str = "") -> tuple[int, int]:
@@ -370,12 +409,14 @@ def auto_scale(series: Mapping[str, Any]) -> int:
 @dataclasses.dataclass(frozen=True)
 class Look:
     """What the caller asks of an output: whether equal neighbours are joined, which times are its index (`interval`, `start` or `end`),
-    whether values are Decimals, whether gaps have rows, over which ticks it is, and the origin of each key."""
+    whether values are Decimals, whether gaps have rows, whether the query and its values are in whole numbers, over which ticks it is, and
+    the origin of each key."""
 
     merge: bool = False
     index: Index = "interval"
     exact: bool = False
     nulls: bool = False
+    whole: bool = False
     over: Range | None = None
     key_origin: KeyOrigin = "shared"
 
@@ -383,7 +424,7 @@ class Look:
         check_one_of("index", self.index, get_args(Index))
         check_one_of("over", self.over, (*get_args(Range), None))
         check_one_of("key_origin", self.key_origin, get_args(KeyOrigin))
-        for name in ("merge", "exact", "nulls"):
+        for name in ("merge", "exact", "nulls", "whole"):
             check_flag(name, getattr(self, name))
 
     def kept(self, rows: RowArrays, start: int, end: int) -> RowArrays:
@@ -445,19 +486,50 @@ class Shape:
         return times if self.zone is None else times.tz_localize("UTC").tz_convert(self.zone)
 
 
-def bind(names: list[str], named: dict[str, Any], convention: Convention) -> tuple[Shape, int, Rows]:
-    """How the output is shown, the scale of the Series, and the rows of each Series on one clock."""
-    missing = [name for name in names if name not in named]
-    other = [name for name in named if name not in names]
-    if missing or other:
-        what = f"{missing[0]} isn't given" if missing else f"not {other[0]}"
-        raise Refused(f"the query reads {', '.join(names) or 'no inputs'}: {what}")
-    convention.check_names(names)
-    files, series = parted(named)
-    clock, scale = shape_of(files, series, convention)
-    rows = ((name, arrays_of(name, one, clock, convention, convention.scale_of(name) or scale)) for name, one in series.items())
-    zone = next((zone_in(one.index) for one in series.values()), None)
-    return Shape(clock, zone, int(convention.output_scale or scale)), scale, rows
+@dataclasses.dataclass
+class Inputs:
+    """The inputs of a query on one clock: those that are files, and those that are Series; the scale of each, and those
+    whose scale the data gave; and the zone of the times, None for times without one."""
+
+    convention: Convention
+    clock: Clock
+    files: dict[str, str]
+    series: dict[str, Any]
+    scales: dict[str, int]
+    by_data: list[str]
+
+    @staticmethod
+    def of(names: list[str], named: dict[str, Any], convention: Convention) -> Inputs:
+        missing = [name for name in names if name not in named]
+        other = [name for name in named if name not in names]
+        if missing or other:
+            what = f"{missing[0]} isn't given" if missing else f"not {other[0]}"
+            raise Refused(f"the query reads {', '.join(names) or 'no inputs'}: {what}")
+        convention.check_names(names)
+        files, series = parted(named)
+        noted = {name: notes_of(file) for name, file in files.items()}
+        known = {name: notes for name, notes in noted.items() if notes is not None}
+        by_data = [name for name in series if convention.scale_of(name) is None]
+        auto = auto_scale({name: series[name] for name in by_data})
+        scales = {name: scale_of(name, known, convention) or (auto if name in series else 1) for name in names}
+        return Inputs(convention, clock_of(known, series, convention), files, series, scales, by_data)
+
+    @property
+    def zone(self) -> Any:
+        return next((zone_in(one.index) for one in self.series.values()), None)
+
+    def refine(self, scale: int) -> bool:
+        """Gives a scale to the inputs whose own the data gave, if that is larger; whether one changed."""
+        finer = {name: scale for name in self.by_data if self.scales[name] < scale}
+        self.scales |= finer
+        return bool(finer)
+
+    def rows(self) -> Rows:
+        """The rows of each Series."""
+        return ((name, arrays_of(name, one, self.clock, self.convention, self.scales[name])) for name, one in self.series.items())
+
+    def shape(self, decimals: int) -> Shape:
+        return Shape(self.clock, self.zone, int(10**decimals))
 
 
 def parted(named: Mapping[str, Any]) -> tuple[dict[str, str], dict[str, Any]]:
@@ -476,17 +548,24 @@ def zone_in(index: Any) -> Any:
     return getattr(getattr(index, "left", index), "tz", None)
 
 
-def shape_of(files: dict[str, str], series: dict[str, Any], convention: Convention) -> tuple[Clock, int]:
-    """The clock and the scale: of the files, if some have JSON files, else of the convention and the readings."""
-    found = {name: notes_of(file) for name, file in files.items()}
-    known = {name: notes for name, notes in found.items() if notes is not None}
+def clock_of(known: dict[str, Notes], series: dict[str, Any], convention: Convention) -> Clock:
+    """The clock: of the files, if some have JSON files, else of the convention and the readings."""
     closed = closed_of(known, series, convention)
     if known:
-        clock = dataclasses.replace(shared_clock(known, convention), closed=closed)
-    else:
-        origin = first_midnight(series) if convention.origin is None else moment_read("origin", convention.origin)
-        clock = Clock(duration_of(convention.tick or "1s"), origin, closed)
-    return clock, scale_of(known, series, convention)
+        return dataclasses.replace(shared_clock(known, convention), closed=closed)
+    origin = first_midnight(series) if convention.origin is None else moment_read("origin", convention.origin)
+    return Clock(duration_of(convention.tick or "1s"), origin, closed)
+
+
+def scale_of(name: str, known: dict[str, Notes], convention: Convention) -> int | None:
+    """The scale of an input: that of its file, or the one that the caller gives; None if neither is there."""
+    scale = convention.scale_of(name)
+    if name not in known:
+        return scale
+    own = known[name].scale
+    if scale not in (own, None) and isinstance(convention.scale, Mapping):
+        raise Refused(f"{convention.shown('scale', name)}={scale}: the file of the input {name} has the scale {own}")
+    return own
 
 
 def shared_clock(known: dict[str, Notes], convention: Convention) -> Clock:
@@ -551,30 +630,6 @@ def midnight(moment: int, zone: Any) -> int:
     except (ValueError, OverflowError) as error:
         what = f"the midnight before the first reading, {moment_text(moment, 9)}"
         raise Refused(f"{what}, is no time that pandas has: give origin=") from error
-
-
-def scale_of(known: dict[str, Notes], series: dict[str, Any], convention: Convention) -> int:
-    """The scale of the Series and of the output: one for all inputs, unless the caller says that they differ."""
-    # As `why.clashes` has it: a helper series counts, and has no scale that another one could have. It isn't used here, since the caller
-    # can give the scale, and can say that the scales differ.
-    scales = {name: notes.scale for name, notes in known.items() if notes.kind != "helper"}
-    names = series or ([""] if not isinstance(convention.scale, Mapping) else convention.scale)
-    own = {name: convention.scale_of(name) for name in names}
-    given = next((scale for scale in own.values() if scale is not None), None)
-    distinct = {*scales.values()} | {scale for scale in own.values() if scale is not None}
-    if len(distinct) <= 1:
-        return distinct.pop() if distinct else auto_scale(series)
-    shown = own if isinstance(convention.scale, Mapping) else {"": given}
-    told = ", ".join(
-        [f"{name} has {scale}" for name, scale in scales.items()]
-        + [f"{convention.shown('scale', name)}={scale}" for name, scale in shown.items() if scale is not None]
-    )
-    if convention.scales == "same":
-        raise Refused(f"the scales differ: {told}; write the series --like each other, or say scales='differ' and output_scale=N")
-    if convention.output_scale is None or None in own.values() and series:
-        what = "output_scale=N" if convention.output_scale is None else "scale=N for the Series"
-        raise Refused(f"scales='differ': {what} is needed; {told}")
-    return given or next(iter(scales.values()))
 
 
 def arrays_of(name: str, series: Any, clock: Clock, convention: Convention, scale: int) -> Iterator[RowArrays]:
@@ -659,7 +714,9 @@ class Live:
             raise Refused("a run by sessions needs its origin and its scale beforehand: origin='2026-03-01', scale=10")
         convention.check_names(query.inputs)
         self.query, self.convention = query, convention
-        self.clock, self.scale = shape_of({}, {}, convention)
+        self.clock = clock_of({}, {}, convention)
+        self.scales = {name: convention.scale_of(name) or 1 for name in query.inputs}
+        self.whole = query.over_whole(Inputs(convention, self.clock, {}, {}, self.scales, []))
         converters = {name: Converter(self.clock, convention.rule(name, self.clock)) for name in query.inputs}
         self.taken = Taken(converters, {name: [] for name in query.inputs}, {})
         self.done: int | None = None
@@ -704,7 +761,7 @@ class Live:
             raise Refused(f"the input {name}: a Series was expected, not {type(series).__name__}")
         if not taken.zoned and (len(series) or zone_in(series.index) is not None):
             taken.zone, taken.zoned = zone_in(series.index), True
-        values, known = whole_numbers(name, series, self.convention.scale_of(name) or self.scale)
+        values, known = whole_numbers(name, series, self.scales[name])
         if isinstance(series.index, pandas.IntervalIndex):
             rows = rows_of_intervals(name, series.index, self.clock, values, known)
             self.check_order(name, rows, taken.reached.get(name))
@@ -727,7 +784,7 @@ class Live:
             raise Refused(f"the input {name}: the interval at {at} is empty, or begins before the one before it ends: sort_index()")
 
     def frame(self, rows: RowArrays) -> pandas.DataFrame:
-        return Shape(self.clock, self.taken.zone, int(self.convention.output_scale or self.scale)).frame(rows)
+        return Shape(self.clock, self.taken.zone, int(10**self.whole.decimals)).frame(rows)
 
     def session(self, taken: Taken, cut: int | None) -> RowArrays:
         """A session up to what each input has reached, the least of which is the cut, or the last one; the rows that it prints. Nothing is
@@ -735,7 +792,12 @@ class Live:
         out, state, new = (os.path.join(self.folder.name, name) for name in ("out", "state", "state.new"))
         paths = {name: sessions.put_rows(self.folder.name, name, (part.text() for part in parts)) for name, parts in taken.rows.items()}
         sessions.session(
-            self.query.put(self.folder.name), None if self.done is None else state, paths, None if cut is None else taken.reached, new, out
+            self.query.put(self.folder.name, self.whole.query),
+            None if self.done is None else state,
+            paths,
+            None if cut is None else taken.reached,
+            new,
+            out,
         )
         lines = pathlib.Path(out).read_text().splitlines()[self.done is None :]
         rows = RowArrays.of((int(start), int(end), int(value)) for start, end, value in (line.split(",") for line in lines))

@@ -4,7 +4,7 @@ from __future__ import annotations
 import dataclasses
 from typing import NoReturn
 
-from .tokens import NOTHING, REDUCERS, RESERVED, Faulty, Token, place, tokens_of
+from .tokens import NOTHING, REDUCERS, RESERVED, Faulty, Token, place, tokens_of, without_points
 
 MOST_STATEMENTS = 256
 MOST_TOKENS = 256
@@ -58,6 +58,14 @@ def statements_of(text: bytes) -> list[Statement]:
         end = place(len(text.rstrip()), len(text.rstrip()))
         raise Faulty.of(1, "place of emit", end, "a query was expected, which ends with `emit EXPRESSION over (S, E];`")
     return [statement_of(part, number, number == len(parts)) for number, part in enumerate(parts, 1)]
+
+
+def inputs_in(text: bytes) -> list[str]:
+    """The names of the inputs of a query, whose numbers can be decimals, in order; none if it isn't well-formed."""
+    try:
+        return [statement.name.text for statement in statements_of(without_points(text)) if statement.form == "input"]
+    except (Faulty, RecursionError):
+        return []
 
 
 def statement_of(tokens: list[Token], number: int, last: bool) -> Statement:

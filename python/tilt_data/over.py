@@ -5,6 +5,7 @@ import dataclasses
 import math
 from typing import Iterable, Iterator
 
+from .files import Extremes
 from .grammar import statements_of
 from .rows import RowArrays
 
@@ -49,13 +50,14 @@ def over_of(query: str) -> Over:
 @dataclasses.dataclass
 class Extent:
     """How far the rows of a Series reach: how many there are, how many of them aren't in the `over` of the query at all, the start of the
-    first and the end of the last one. A Series without rows has neither."""
+    first and the end of the last one, and its smallest and largest number. A Series without rows has none of these."""
 
     over: Over | None = None
     rows: int = 0
     outside: int = 0
     first: int | None = None
     last: int | None = None
+    extremes: Extremes = dataclasses.field(default_factory=Extremes)
 
     @staticmethod
     def of(parts: Iterable[RowArrays]) -> Extent:
@@ -69,6 +71,9 @@ class Extent:
             return
         first, last = int(part.starts.min()), int(part.ends.max())
         self.rows += len(part)
+        values = part.values if part.known is None else part.values[part.known]
+        for value in (values.min(), values.max()) if len(values) else ():
+            self.extremes.take(int(value))
         self.first = first if self.first is None else min(first, self.first)
         self.last = last if self.last is None else max(last, self.last)
         if self.over is not None and (first < self.over.start or last > self.over.end):

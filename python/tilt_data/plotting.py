@@ -26,8 +26,9 @@ if TYPE_CHECKING:
 HELP = """Draws series and outputs. NAME=FILE starts a panel, and +NAME=FILE after it is drawn into the same panel. There +limit:NAME=FILE
 is a dashed line, +dots:NAME=FILE has dots, and +band:NAME=FILE is a shaded band where FILE has a value other than 0. A value that holds
 is a step, events are dots, and null is a gap. What is shorter than a pixel is drawn one pixel wide, and a gap that is shorter isn't drawn.
-One name has one look in all panels. The clock and the scale are those of the JSON file beside each file, or of the series that --like
-names. If there is neither, the axis has ticks. One FILE can be - for standard input."""
+One name has one look in all panels. A series has its clock and its scale in the JSON file beside it. Other files have the clock of the
+series that --like names, and values as `tilt-data run` prints them. If there is no clock, the axis has ticks. One FILE can be - for
+standard input."""
 COLOURS = "#1f5fa8 #2a7f4f #7a3e9d #8a6d1d #137c86 #5b5b5b #d0438f #56a8e0 #7dac1c #5c2b1c #b09bdc #101c40".split()
 # The lines and the dots of the first names, and of those after each round of the colours.
 LINES, DOTS = ["-", (0, (1, 1)), (0, (5, 1, 1, 1))], [".", "x", "+"]
@@ -237,12 +238,10 @@ def files_drawn(what: Mapping[str, Shown], like: str | None, convention: Convent
     if not series:
         return files
     known = {**named, "": like} if like is not None else named
-    auto = frames.auto_scale({name: one for name, one in series.items() if convention.scale_of(name) is None})
-    scales = {name: convention.scale_of(name) or auto for name in series}
     # A name can have what no file name has.
     paths = {name: os.path.join(folder, f"{number}.csv") for number, name in enumerate(series)}
     with Outputs() as outputs:
-        frames.write_series(outputs, known, paths, dataclasses.replace(convention, scale=scales))
+        frames.write_series(outputs, known, paths, convention)
         outputs.commit()
     return {name: {**files, **paths}[name] for name in what}
 

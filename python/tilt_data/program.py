@@ -38,6 +38,14 @@ def program(command: str = "tilt") -> str:
     return found
 
 
+def is_there(command: str) -> bool:
+    """Whether a program can be found, and run."""
+    try:
+        return shutil.which(program(command)) is not None
+    except Refused:
+        return False
+
+
 @functools.cache
 def released(command: str) -> str | None:
     """The program that was released from the sources of this checkout; None if there is none, or this is no checkout."""
@@ -160,9 +168,3 @@ class Explained:
         lets = {name: None if rest[0] == "unused" else (rest[0], int(rest[1]), int(rest[2])) for name, rest in found.items()}
         (back, ahead), loops = ((int(words[1]), int(words[2])) for word in ("reach", "loops") for words in lines if words[0] == word)
         return Explained(back, ahead, inputs, lets, loops)
-
-
-def inputs_of(query: str) -> list[str]:
-    """The inputs of the query in a file, in order; none if the program rejects it."""
-    called = call(["explain", query])
-    return [] if called.status else list(Explained.of(called.printed.decode()).inputs)

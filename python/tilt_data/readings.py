@@ -17,7 +17,8 @@ from .clock import TIMES, Clock, Moments, duration_text, moment_text, zone_of
 from .convention import TextConvention, time_text
 from .convert import Converter, Late, Tie, row_text
 from .errors import Refused, note, refused_at
-from .files import HEADER_LINE, Notes, Outputs, Row, check_replaceable, notes_path, reading, records, safe, same_file, scratch, spooled
+from .files import HEADER_LINE, Extremes, Notes, Outputs, Row, check_replaceable, notes_path, reading, records, safe, same_file, scratch
+from .files import spooled
 from .progress import shown
 from .scales import Scale, digits_after_point
 
@@ -134,7 +135,7 @@ def in_order(readings: Iterable[Reading], folder: str, most: int = 100000) -> It
 @dataclasses.dataclass
 class Written:
     """A series that is written: its file, the converter of its readings and the line of the last one; and what is reported of its rows: how
-    many there are, where the first starts and the last ends, and how many have no value."""
+    many there are, where the first starts and the last ends, how many have no value, and the smallest and the largest of the others."""
 
     key: str
     name: str
@@ -145,6 +146,7 @@ class Written:
     start: int = 0
     end: int = 0
     nulls: int = 0
+    extremes: Extremes = dataclasses.field(default_factory=Extremes)
 
     def figures(self, scale: int) -> str:
         converter = self.converter
@@ -253,6 +255,7 @@ class Converting:
             raise self.beyond(series.line, series.converter.clock.moment(start), f"a row to the tick {end}")
         series.start = series.start if series.rows else start
         series.rows, series.end, series.nulls = series.rows + 1, end, series.nulls + (value is None)
+        series.extremes.take(value)
         self.outputs.write(series.path, row_text(row))
 
     def finish(self) -> None:
@@ -266,7 +269,8 @@ class Converting:
                 self.put(series, row)
             kind = "event" if self.convention.is_event(series.name) else "hold"
             key = series.key if self.words.key else None
-            notes = Notes(series.converter.clock, self.scale(series.name).scale, kind, series.name, key, self.words.zone)
+            clock, scale = series.converter.clock, self.scale(series.name).scale
+            notes = Notes(clock, scale, kind, series.name, key, self.words.zone, *series.extremes.both)
             self.outputs.write(notes_path(series.path), notes.text())
 
     def told(self, most: int = 10) -> Iterator[str]:

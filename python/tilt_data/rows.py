@@ -191,6 +191,16 @@ def rows_ended(converter: Converter, moment: int, starts: Any, values: Any, know
     return RowArrays(starts[:-1], ends, values[:-1], None if known is None or known[:-1].all() else known[:-1])
 
 
+def marks_in(parts: Iterable[RowArrays], ticks: int) -> int:
+    """How many marks are in any so many ticks at most, over the rows of an input in order."""
+    import numpy
+
+    edges = [numpy.column_stack([part.starts, part.ends]).ravel() for part in parts]
+    steps = numpy.diff(numpy.concatenate(edges)) if edges else numpy.zeros(0, "i8")
+    places = numpy.insert(numpy.cumsum(steps[steps > 0]), 0, 0)
+    return int((places.searchsorted(places + ticks) - numpy.arange(len(places))).max())
+
+
 def arrays_in(path: str) -> Iterator[RowArrays]:
     rows = rows_in(path)
     while some := list(itertools.islice(rows, AT_ONCE)):

@@ -24,7 +24,7 @@ from .progress import Bar
 from .ranges import NotPlain, Piece, Range, Series
 from .tasks import Batch, Joining, Made, Stretch, Task
 from .version import VERSION as RELEASE
-from .why import clashes_of
+from .why import clashes_of, known_notes
 
 if TYPE_CHECKING:
     Files = Union[str, os.PathLike[str], Sequence[Union[str, os.PathLike[str]]]]
@@ -255,12 +255,17 @@ class Plan:
         return f"{self.out}/{whole_name(key)}"
 
     def notes(self) -> Iterator[str]:
-        """Notes on the cuts, and on inputs whose clocks or scales differ."""
+        """Notes on the cuts, on scales, and on inputs whose clocks or scales differ."""
         if self.moved:
             grid = f"to the grid of every {self.domain.period} ticks, or " if self.domain.period > 1 else ""
             yield f"cuts that were moved {grid}into the domain: {self.moved}"
         if self.fewer:
             yield f"cuts that had no place of their own in the domain, so that there are fewer parts: {self.fewer}"
+        first: dict[str, list[str]] = next(iter(self.files.values()), {})
+        scales = {name: notes.scale for name, notes in known_notes({name: paths[0] for name, paths in first.items()}, []).items()}
+        if any(scale != 1 for scale in scales.values()):
+            shown = ", ".join(f"{name} times {scale}" for name, scale in scales.items() if scale != 1)
+            yield f"note: the query and its outputs are in whole numbers ({shown}); `tilt-data by` is in units"
         found: dict[str, list[str]] = {}
         for key, its in self.files.items():
             clash = clashes_of({name: paths[0] for name, paths in its.items()})

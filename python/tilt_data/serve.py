@@ -10,13 +10,14 @@ from typing import Any
 from .arrivals import Arrivals, read_arrivals
 from .drawn import Picture, add_drawn
 from .errors import Refused, note
+from .files import ValuesAt
 from .view.coding import Summary, fields_of
 from .view.command import POLICY, SCRIPTS, Written, extent_of, fields_element, fields_of_clock, fields_of_page
 from .view.command import frame_of, gap_of, is_band, title_of, write_files
 
 HELP = """Shows the page of `view` at an address of this machine while rows arrive, until Ctrl-C. A FILE that is - for standard input, or
-a named pipe, has lines as `tilt-live` prints them, with or without --begun. Each row is drawn as soon as it is there. Other files are
-read once, as by `view`. The lines of standard input are also printed."""
+a named pipe, has lines as `tilt-live` prints them, with or without --begun. If their values have two decimals, --scale is 100. Each row
+is drawn as soon as it is there. Other files are read once, as by `view`. The lines of standard input are also printed."""
 # The scripts of the page, and what a browser may load for it: its rows too. Nothing may have it within another page.
 LIVE_SCRIPTS = [*SCRIPTS[:-1], "live.js", SCRIPTS[-1]]
 LIVE_POLICY = f"{POLICY}; connect-src 'self'"
@@ -66,7 +67,8 @@ def main(words: argparse.Namespace) -> int:
         note(f"the page is {server.address} until Ctrl-C")
         for number, file in enumerate(live):
             is_printed = file == "-" and not words.quiet
-            threading.Thread(target=read_arrivals, args=(arrivals, number, file, is_printed), daemon=True).start()
+            values = ValuesAt(next(one.divisor for one in picture.all if one.file == file))
+            threading.Thread(target=read_arrivals, args=(arrivals, number, file, is_printed, values), daemon=True).start()
         arrivals.wait()
         if not words.exit:
             note("the input has ended; the page stays until Ctrl-C")

@@ -24,11 +24,10 @@ def check(called: program.Called, words: list[str], name: str | None = None) -> 
         raise TiltError(line, called.status, place)
 
 
-def explained(query: str, name: str) -> Explained:
-    """What `tilt explain` says of the query in a file. One that it rejects is an error."""
-    words = ["explain", query]
-    called = program.call(words)
-    check(called, words, name)
+def explained(query: str, plain: str, name: str) -> Explained:
+    """What `tilt explain` says of the query in a file, given one with its text without points. One that it rejects is an error."""
+    called = program.call(["explain", plain])
+    check(called, ["explain", query], name)
     return Explained.of(called.printed.decode())
 
 

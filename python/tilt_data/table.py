@@ -14,26 +14,33 @@ from typing import IO, Any, Iterable, Iterator
 from .clock import Clock, duration_of, zone_of
 from .drawn import joined
 from .errors import Refused, refused_at
-from .files import HEADER, Row, notes_of, notes_path, reading, records, row_of, rows_in, safe, same_file, writing
+from .files import HEADER, Row, Values, notes_of, notes_path, reading, records, row_of, rows_in, safe, same_file, writing
 from .progress import shown
 from .scales import decimal_text
 
 SCALE = re.compile(r"[0-9]{1,30}", re.ASCII)
-HELP = """Prints outputs of tilt, or series, with dates and decimals. The clock and the scale are those of the JSON file beside the file,
-or of the series that --like names. A row start,end is the stretch of time from the first to the second; which of its ends belongs to it is
-the `closed` of the series. If a file starts with key,start,end,value, as from `tilt-data by`, the key stays the first column."""
+HELP = """Prints outputs, or series, with dates and decimals. A series has its clock and its scale in the JSON file beside it. An output
+has the clock of the series that --like names, and its values are as `tilt-data run` prints them, unless --scale is given. A row
+start,end is the stretch of time from the first to the second; which of its ends belongs to it is the `closed` of the series. If
+a file starts with key,start,end,value, as from `tilt-data by`, the key stays the first column."""
 
 
 @dataclasses.dataclass
 class Look:
-    """How times and values are written: the clock, the zone (None for UTC), and the scale; and the SHA-256 that the file is to have, if its
-    own notes say one."""
+    """How times and values are written: the clock, the zone (None for UTC), and what whole numbers are divided by; the SHA-256 that the
+    file is to have, if its own notes say one; and how the values of an output are read."""
 
     clock: Clock
     zone: datetime.tzinfo | None
-    scale: int
+    divisor: int
     sha256: str | None = None
+    values: Values | None = None
     known: tuple[int, str] | None = None
+
+    @property
+    def scale(self) -> int:
+        """The scale of the rows that were read."""
+        return self.divisor * (1 if self.values is None else self.values.scale)
 
     def time(self, tick: int) -> str:
         # Where a row ends the next one mostly begins.
@@ -52,8 +59,10 @@ class Look:
 def add(commands: Any) -> None:
     parser = commands.add_parser("table", help="outputs back to dates and decimals", description=HELP)
     parser.add_argument("files", nargs="+", metavar="[NAME=]FILE", help="outputs of tilt or series; - for standard input")
-    parser.add_argument("--like", metavar="SERIES", help="the series whose clock and scale these files have")
-    parser.add_argument("--scale", action="append", metavar="[NAME=]N", default=[], help="values are divided by N, such as 1 for a count")
+    parser.add_argument("--like", metavar="SERIES", help="the series whose clock these files have")
+    parser.add_argument(
+        "--scale", action="append", metavar="[NAME=]N", default=[], help="values are divided by N: whole numbers as `tilt run` prints them"
+    )
     parser.add_argument("--zone", help="the time zone of the dates (that of the series, or UTC)")
     parser.add_argument("--merge", action="store_true", help="join equal neighbours")
     parser.add_argument("--episodes", action="store_true", help="a row for each stretch of rows that follow one another")
@@ -106,8 +115,10 @@ class Looks:
         notes = own or self.like
         if notes is None:
             raise Refused(f"{file}: its ticks and scale aren't known: no JSON file is beside it; --like SERIES names a series that has one")
-        scale = int(self.scales.get(name, self.scales.get("", notes.scale)))
-        return Look(notes.clock, zone_of(self.zone or notes.zone), scale, None if own is None else own.sha256)
+        scale = int(self.scales.get(name, self.scales.get("", 1 if own is None else own.scale)))
+        return Look(
+            notes.clock, zone_of(self.zone or notes.zone), scale, None if own is None else own.sha256, Values() if own is None else None
+        )
 
 
 def merged(rows: Iterable[Row]) -> Iterator[Row]:
@@ -141,14 +152,14 @@ def plain(words: argparse.Namespace, looks: Looks) -> Iterator[list[str]]:
     name, file = named(words.files[0])
     look = looks.of(name, file)
     with reading(file, sha256=look.sha256) as opened:
-        keyed, groups = keyed_rows(file, opened)
+        keyed, groups = keyed_rows(file, opened, look.values)
         yield [*keyed, *HEADER]
         for key, rows in groups:
             for start, end, value in merged(rows) if words.merge else rows:
                 yield [*key, look.time(start), look.time(end), look.value(value)]
 
 
-def keyed_rows(file: str, opened: IO[str]) -> tuple[list[str], Iterator[tuple[list[str], Iterator[Row]]]]:
+def keyed_rows(file: str, opened: IO[str], values: Values | None) -> tuple[list[str], Iterator[tuple[list[str], Iterator[Row]]]]:
     """The head of the key, where the file has one, and the rows of each key that follow one another. Those of one key are in order."""
     found = records(file, opened)
     line, header = next(found, (1, [""]))
@@ -162,7 +173,7 @@ def keyed_rows(file: str, opened: IO[str]) -> tuple[list[str], Iterator[tuple[li
             if len(record) != len(header):
                 raise refused_at(file, line, f"{len(header)} fields were expected as in the header, not {len(record)}")
             key = record[:-3]
-            row = row_of(file, line, record[-3:], before if key == known else None)
+            row = row_of(file, line, record[-3:], before if key == known else None, values)
             known, before = key, row[1]
             yield key, row
 
@@ -204,7 +215,7 @@ def wide(words: argparse.Namespace, looks: Looks) -> Iterator[list[str]]:
     first, *others = shapes = [looks.of(name, file) for name, file in files]
     first.check(others, "these files have other ticks or origins: they have no common pieces")
     yield ["start", "end", *(name for name, _ in files)]
-    opened = [rows_in(file, sha256=shape.sha256) for (_, file), shape in zip(files, shapes)]
+    opened = [rows_in(file, None, shape.sha256, shape.values) for (_, file), shape in zip(files, shapes)]
     cursors = [Cursor(merged(rows) if words.merge else rows) for rows in opened]
     for start, end, values in shown(pieces(cursors), "rows"):
         yield [first.time(start), first.time(end), *(shape.value(value) for shape, value in zip(shapes, values))]
@@ -266,7 +277,7 @@ def episodes(words: argparse.Namespace, looks: Looks) -> Iterator[list[str]]:
     others = [named(word) for word in words.of]
     gap = 0 if words.gap is None else look.clock.ticks(duration_of(words.gap), "--gap")
     with reading(file, sha256=look.sha256) as opened:
-        keyed, groups = keyed_rows(file, opened)
+        keyed, groups = keyed_rows(file, opened, look.values)
         yield [*keyed, "start", "end", "seconds", *(f"{other}_{what}" for other, _ in others for what in ("min", "max", "mean"))]
         for key, rows in groups:
             of_key = [(other, file_of(path, key[0]) if key else path) for other, path in others]
@@ -284,7 +295,7 @@ def file_of(pattern: str, key: str) -> str:
 def episodes_of(rows: Iterator[Row], look: Look, others: list[tuple[str, str]], looks: Looks, gap: int) -> Iterator[list[str]]:
     shapes = [looks.of(*other) for other in others]
     look.check(shapes, "the files of --of have other ticks or origins than the episodes")
-    within = [Within(rows_in(other, sha256=shape.sha256)) for (_, other), shape in zip(others, shapes)]
+    within = [Within(rows_in(other, None, shape.sha256, shape.values)) for (_, other), shape in zip(others, shapes)]
     for start, end in joined(((start, end) for start, end, value in rows if value is not None), gap):
         fields = [look.time(start), look.time(end), length_text(look.clock, end - start)]
         for one, shape in zip(within, shapes):

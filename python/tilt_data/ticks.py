@@ -9,7 +9,7 @@ from typing import Any, Iterator
 from .clock import DAY, EPOCH, TIMES, UNITS, Clock, duration_of, local_moment, moment_text, zone_of
 from .convert import row_text
 from .errors import Refused
-from .files import HEADER_LINE, Notes, Outputs, Row, check_replaceable, notes_of_like, notes_path, same_file
+from .files import HEADER_LINE, Extremes, Notes, Outputs, Row, check_replaceable, notes_of_like, notes_path, same_file
 from .progress import shown
 
 HELP = """Writes a helper series, with its JSON file beside, on the clock of the series that --like names. KIND is one of these:
@@ -55,11 +55,13 @@ def main(words: argparse.Namespace) -> int:
     lo, hi = (tick_of(option, text, clock, words.zone) for option, text in (("--from", words.begin), ("--to", words.end)))
     if lo >= hi:
         raise Refused(f"the stretch from {words.begin} to {words.end} has no tick")
+    extremes = Extremes()
     with Outputs() as outputs:
         outputs.write(words.out, HEADER_LINE.decode())
         for row in shown(rows_of_kind(words, clock, lo, hi), "rows"):
             outputs.write(words.out, row_text(row))
-        outputs.write(notes_path(words.out), Notes(clock, 1, "helper", words.kind, None, words.zone).text())
+            extremes.take(row[2])
+        outputs.write(notes_path(words.out), Notes(clock, 1, "helper", words.kind, None, words.zone, *extremes.both).text())
         outputs.commit()
     return 0
 

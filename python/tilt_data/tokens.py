@@ -9,6 +9,8 @@ RESERVED = frozenset("input let emit over every from if then else when or and no
 BLANKS = re.compile(rb"[ \t\n\r]*")
 TOKEN = re.compile(rb"([A-Za-z_][A-Za-z0-9_]*)|([0-9]+)|==|!=|<=|>=|[;=<>+\-*/%()\[\],:]")
 GREATEST_NUMBER = 2**63 - 1
+# A number with a point, and what follows its whole part.
+DECIMAL = re.compile(rb"(?<![\w.])([0-9]+)(\.[0-9]+)")
 
 
 class Token(NamedTuple):
@@ -49,7 +51,7 @@ SIGNS = {
     "|": "`or` is written in letters",
     "!": "`not a` is written in letters; `!=` compares",
     "#": "there are no comments: take them out, as by sed 's/#.*//'",
-    ".": "numbers are whole: scale values, as 20.5 degrees to 205 tenths",
+    ".": "write 0.5 with a digit before the point; over whole numbers scale values, as 20.5 degrees to 205 tenths",
     "'": "there are no texts, only numbers",
     '"': "there are no texts, only numbers",
     "{": "blocks aren't in the language",
@@ -58,6 +60,16 @@ SIGNS = {
     "?": "choices are written `if c then a else b`",
     "$": "a name has letters, digits and _",
 }
+
+
+def without_points(text: bytes) -> bytes:
+    """The query with blanks in place of the decimals of its numbers. All else stays where it is: names, windows, spans and grids."""
+    return DECIMAL.sub(lambda found: found[1] + b" " * len(found[2]), text)
+
+
+def decimals_in(text: bytes) -> int:
+    """The most digits that a number of the query has after its point."""
+    return max((len(decimal[2]) - 1 for decimal in DECIMAL.finditer(text)), default=0)
 
 
 def tokens_of(text: bytes) -> list[Token]:

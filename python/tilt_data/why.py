@@ -1,4 +1,4 @@
-"""`tilt-data run` and `tilt-data why`: what `tilt` says, and where it refuses the place of the mistake, what was expected and a cure.
+"""What there is to say of a line of `tilt` besides: the place of the mistake, what was expected and a cure.
 
 The program's own line stands first, and nothing is added that says otherwise: a place is told only where the reading here comes to the
 line of the program."""
@@ -10,17 +10,18 @@ import dataclasses
 import difflib
 import os
 import re
-import sys
-from typing import Any, Iterable, Iterator, Mapping, TypeVar
+from typing import Iterable, Iterator, Mapping, TypeVar
 
-from .errors import Refused, note, printable
+from .errors import Refused, printable
 from .files import Notes, Stale, notes_of
 from .forms import fault_of
-from .program import call, inputs_of
-from .tokens import Faulty, place_of
+from .grammar import inputs_in
+from .tokens import DECIMAL, Faulty, place, place_of, without_points
 
 SERIES_LINE = re.compile(r"(1[0-7]) series (\S+): (.*)")
 ROW = re.compile(r" in row (\d+)$")
+# A line about the units of a query: its number, and a byte, a statement or a scale.
+UNIT_LINE = re.compile(r"(11[0-9]) (?:.* at|statement|output scale) ([0-9]+)(?:: .*)?")
 Fact = TypeVar("Fact")
 CURES = {
     10: "the first line has to be start,end,value; a CSV of readings becomes a series by `tilt-data series`",
@@ -31,6 +32,23 @@ CURES = {
     15: "a start at the end of the row before or later was expected: sort the rows, and let none overlap",
     16: "it starts before the cut of the session before",
     17: "it starts at the cut of this session or later",
+}
+# Of a line about units what was expected, and a cure.
+FINER, COARSER, SPLIT = "a larger scale for that input", "smaller scales", "split it into definitions by `let`"
+UNIT_CURES = {
+    110: ("a point between two digits of a number was expected", "write 0.5"),
+    111: ("at most 18 digits after the point were expected", "write fewer"),
+    112: ("a whole number of ticks was expected", "windows, shifts, spans and grids are in ticks"),
+    113: (
+        "what is added, compared or chosen needs one scale, or one that is a multiple of the other",
+        "give scales that are powers of ten",
+    ),
+    114: ("a number isn't whole at the scale of what it is added to or compared with", f"give {FINER}"),
+    115: ("a number leaves 64 bits at the scale of what it is added to or compared with", f"give {COARSER}"),
+    116: ("the scale of a product leaves 64 bits", f"give {COARSER}"),
+    117: ("at most 256 nodes over whole numbers were expected", SPLIT),
+    118: ("at most 256 tokens over whole numbers were expected", SPLIT),
+    119: ("a scale of the output that is a power of ten was expected", "give scales that are powers of ten, or take whole numbers"),
 }
 
 
@@ -108,7 +126,7 @@ def series_refusal(found: re.Match[str], files: dict[str, str]) -> Refusal | Non
 def names_refusal(query: str, name: str, words: list[str]) -> Refusal:
     """Which name is bound twice, not at all, or is no input."""
     bindings = [word.partition("=")[0] for word in words[1:] if "=" in word and not word.startswith("--")]
-    inputs = inputs_of(query)
+    inputs = inputs_in(text_of(query))
     if bindings.count(name) > 1:
         return Refusal(query, expected=f"{name} is bound more than once", cure="bind each input once")
     if name in inputs:
@@ -116,6 +134,30 @@ def names_refusal(query: str, name: str, words: list[str]) -> Refusal:
     near = difflib.get_close_matches(name, inputs, 1, 0.5)
     cure = f"did you mean {near[0]}?" if near else f"its inputs are {', '.join(inputs) or 'none'}"
     return Refusal(query, expected=f"the query has no input {name}", cure=cure)
+
+
+def text_of(query: str) -> bytes:
+    """The text of a query, none if it can't be read."""
+    with contextlib.suppress(OSError), open(query, "rb") as opened:
+        return opened.read()
+    return b""
+
+
+def unit_refusal(found: re.Match[str], query: str) -> Refusal:
+    """The place of a line about units: a byte, or a statement."""
+    number, count, text = int(found[1]), int(found[2]), text_of(query)
+    expected, cure = UNIT_CURES[number]
+    if number == 119:
+        return Refusal(query, expected=expected, cure=cure)
+    begin, end = count, count + 1
+    if number in (111, 112):
+        decimal = DECIMAL.match(text, count)
+        end = end if decimal is None else decimal.end()
+    elif number > 112:
+        parts = text.split(b";")[:count]
+        end = sum(len(part) + 1 for part in parts)
+        begin = end - 1 - len(parts[-1].lstrip())
+    return placed(query, text, Faulty("", place(begin, end), expected, cure))
 
 
 def fault_refusal(file: str) -> Refusal | None:
@@ -137,11 +179,13 @@ def refusal_of(told: str, words: list[str]) -> Refusal | None:
     line = told.removeprefix("tilt: ").rstrip("\n")
     query = words[0] if words else ""
     if re.match(r"(2\d|3[01]) ", line):
-        text = b""
-        with contextlib.suppress(OSError), open(query, "rb") as opened:
-            text = opened.read()
-        fault = fault_of(text)
-        return placed(query, text, fault) if fault is not None and fault.line == line else None
+        text = text_of(query)
+        # Over whole numbers a decimal is a fault, and in units it is none.
+        faults = [fault_of(its) for its in (text, without_points(text))]
+        return next((placed(query, text, fault) for fault in faults if fault is not None and fault.line == line), None)
+    found = UNIT_LINE.fullmatch(line)
+    if found:
+        return unit_refusal(found, query)
     found = SERIES_LINE.fullmatch(line)
     if found:
         return series_refusal(found, bound(words))
@@ -150,17 +194,17 @@ def refusal_of(told: str, words: list[str]) -> Refusal | None:
     return fault_refusal(line[len("4 read fault: ") :]) if line.startswith("4 read fault: ") else None
 
 
-def clashes_of(files: Mapping[str, str]) -> str | None:
+def clashes_of(files: Mapping[str, str], is_whole: bool = True) -> str | None:
     """What the notes of the files of inputs differ in, in one line, after what is said of notes that don't describe their file; None if
     they agree. Files without notes are left out."""
     texts: list[str] = []
-    clash = clashes(known_notes(files, texts))
+    clash = clashes(known_notes(files, texts), is_whole)
     return "; ".join([*texts, clash] if clash is not None else texts) or None
 
 
-def clashes(known: Mapping[str, Notes]) -> str | None:
-    """What the notes of inputs differ in, in one line; None if they agree. Scales aren't compared with those of helper series, which count
-    and have no unit."""
+def clashes(known: Mapping[str, Notes], is_whole: bool = True) -> str | None:
+    """What the notes of inputs differ in, in one line; None if they agree. Scales matter to a query over whole numbers. They aren't
+    compared with those of helper series, which count and have no unit."""
     texts: list[str] = []
     clocks = distinct((name, (notes.clock.tick, notes.clock.origin)) for name, notes in known.items())
     if len(clocks) > 1:
@@ -170,7 +214,7 @@ def clashes(known: Mapping[str, Notes]) -> str | None:
     if len(closed) > 1:
         texts.append(f"the inputs differ in `closed` ({shown_by(closed)}): write one --like the other")
     scales = distinct((name, notes.scale) for name, notes in known.items() if notes.kind != "helper")
-    if len(scales) > 1:
+    if is_whole and len(scales) > 1:
         texts.append(f"the inputs have different scales ({shown_by(scales)}): write one --like the other before you add or compare them")
     return "; ".join(texts) or None
 
@@ -200,36 +244,3 @@ def distinct(found: Iterable[tuple[str, Fact]]) -> dict[Fact, list[str]]:
 def shown_by(names: Mapping[Fact, list[str]], most: int = 3) -> str:
     """The names and their values, as `a, b: 10; c: 100`."""
     return "; ".join(f"{', '.join(some[:most])}{', ..' if len(some) > most else ''}: {fact}" for fact, some in names.items())
-
-
-def passed_on(command: str, words: list[str]) -> int:
-    """Calls the program on the streams of the caller: its status. After its line comes what there is to say of it."""
-    called = call([command, *words], None, None)
-    sys.stderr.write(called.told)
-    refusal = refusal_of(called.told, words) if called.status else None
-    for line in refusal.lines() if refusal is not None else ():
-        print(line, file=sys.stderr)
-    return called.status if called.status >= 0 else 128 - called.status
-
-
-def run(words: list[str]) -> int:
-    """`tilt run` with these words: its status and its bytes."""
-    status = passed_on("run", words)
-    clash = None if status else clashes_of(bound(words))
-    if clash:
-        note(f"note: {printable(clash)}")
-    return status
-
-
-def add(commands: Any) -> None:
-    # It is here for the list of commands and its own help: `cli.main` hands all other words on as they are.
-    commands.add_parser(
-        "run",
-        help="tilt run, and the place of a mistake",
-        usage="tilt-data run QUERY NAME=FILE .. [--plain] [--cut TIME,..]",
-        description="Runs `tilt run` with the same arguments: its output, line and status. After an error the place and a fix follow.",
-    )
-    description = "Prints why a query is rejected, and where; else what `tilt explain` prints."
-    parser = commands.add_parser("why", help="why a query is rejected", description=description)
-    parser.add_argument("query", metavar="QUERY")
-    parser.set_defaults(main=lambda words: passed_on("explain", [words.query]))

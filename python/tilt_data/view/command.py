@@ -20,8 +20,9 @@ from .coding import Block, Summary, blocks_of, fields_of, packed, times_of
 HELP = """Writes a page, one HTML file, to look around in series and outputs by mouse, touch or keyboard. It needs no network and no server.
 NAME=FILE starts a panel, and +NAME=FILE after it is drawn into the same panel. There +limit:NAME=FILE is a dashed line, +dots:NAME=FILE
 has dots, and +band:NAME=FILE is a shaded band where FILE has a value other than 0. Each stretch of a band is in a table of episodes, from
-which you go to it. The values under the pointer are exact. The clock and the scale are those of the JSON file beside each file, or of the
-series that --like names. If there is neither, the axis has ticks. One FILE can be - for standard input."""
+which you go to it. The values under the pointer are exact. A series has its clock and its scale in the JSON file beside it. Other files
+have the clock of the series that --like names, and values as `tilt-data run` prints them. If there is no clock, the axis has ticks. One
+FILE can be - for standard input."""
 # The scripts of the page, in order, and what a browser may run and load for it.
 SCRIPTS = ["numbers.js", "axis.js", "series.js", "chart.js", "page.js"]
 POLICY = "default-src 'none'; script-src 'unsafe-inline'; style-src 'unsafe-inline'"
