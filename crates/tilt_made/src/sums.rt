@@ -1,13 +1,13 @@
 // The summary of a run.
 ghost use Rattle.std.specs.Prelude.{◌≡◌, ◌<◌, List, [], ◌∷◌, ◌++◌, length, IfOk};
 ghost use Rattle.tilt_made.specs.Summary.{summary_text, values};
-ghost use Rattle.tilt_reduce.specs.States.{IsSumAndCount};
+ghost use Rattle.tilt_window.specs.States.{IsSumAndCount};
 ghost use Rattle.tilt_stream.specs.Snap.{Snapshot};
 
 use std::alloc::{AllocError as OutOfMemory, Global};
-use tilt_reduce::{Reduction, SumR};
 use tilt_stream::{Snap, SnapList};
 use tilt_text::{put, put_number};
+use tilt_window::{Reduction, SumR};
 
 /// The summary of a run over two made series of so many rows, of which these are the snapshots: how many aren't null, and
 /// the exact sum of their values.

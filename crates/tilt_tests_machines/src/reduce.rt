@@ -3,7 +3,7 @@ ghost use Rattle.std.specs.Prelude.{◌≡◌, ◌<◌, length};
 ghost use Rattle.tilt_base.specs.Reduce.{reduce};
 
 use tilt_base::Cell;
-use tilt_reduce::{AllR, AnyR, AvgR, CountR, FirstR, LastR, MaxR, MinR, Reduction, SumR};
+use tilt_window::{AllR, AnyR, AvgR, CountR, FirstR, LastR, MaxR, MinR, Reduction, SumR};
 
 // What the reducer answers once these numbers were added, through the trait alone.
 fn answer<R: Reduction>(numbers: &[i64]) -> Cell

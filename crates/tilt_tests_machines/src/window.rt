@@ -4,8 +4,10 @@ ghost use Rattle.std.specs.Prelude.{◌≡◌, ◌<◌, ◌≤◌, ◌+◌, [], 
 use std::alloc::{AllocError as OutOfMemory, Global};
 use std::test::Fail;
 use tilt_base::Cell;
-use tilt_reduce::{AllR, AnyR, AvgR, CountR, FirstR, LastR, MaxR, Merge, MinR, SumR};
-use tilt_window::{Refold, TwoStack, Undoing, Window};
+use tilt_window::{
+    AllR, AnyR, AvgR, CountR, FirstR, LastR, MaxR, Merge, MinR, Refold, SumR, TwoStack, Undoing,
+    Window,
+};
 
 // Stands for null in the tables: no answer here is that number.
 const NULL: i64 = -99;

@@ -6,8 +6,9 @@ ghost use Rattle.tilt_window.specs.Taken.{IsFirstTaken};
 
 use std::alloc::{AllocError as OutOfMemory, Global};
 use tilt_base::{Cell, Reducer};
-use tilt_reduce::{AllR, AnyR, AvgR, CountR, FirstR, LastR, MaxR, MinR, SumR};
-use tilt_window::{TwoStack, Undoing, Window};
+use tilt_window::{
+    AllR, AnyR, AvgR, CountR, FirstR, LastR, MaxR, MinR, SumR, TwoStack, Undoing, Window,
+};
 
 // A window, by its reducer.
 #[derive(Drop)]

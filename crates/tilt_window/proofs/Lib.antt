@@ -1,1 +1,4 @@
+pub mod Joins
+pub mod Reduced
 pub mod Stacked
+pub mod Truths

@@ -1,2 +1,3 @@
 pub mod Stacked
+pub mod States
 pub mod Taken

@@ -2,12 +2,12 @@
 ghost use Rattle.std.specs.Prelude.{◌≡◌, []};
 ghost use Rattle.tilt_window.specs.Taken.{IsFirstTaken};
 
+use crate::reduction::Reduction;
 use crate::window::Window;
 use std::alloc::{AllocError as OutOfMemory, Global};
 use std::collections::VecDeque;
 use std::marker::{Model, PhantomData};
 use tilt_base::Cell;
-use tilt_reduce::Reduction;
 
 /// A window that keeps its cells, and reduces all of them at each `result`.
 #[derive(Drop)]

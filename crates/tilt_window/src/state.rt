@@ -2,8 +2,9 @@
 ghost use Rattle.std.specs.Prelude.{◌<◌, ℤ, List, [], ◌∷◌, ◌++◌, Option, length};
 ghost use Rattle.tilt_base.specs.Reduce.{numbers};
 
+use crate::reduction::Reduction;
+use crate::undo::Undo;
 use tilt_base::Cell;
-use tilt_reduce::{Reduction, Undo};
 
 // Adds the cell's number, if it has one.
 pub(crate) fn add_cell<R: Reduction>(state: &mut R::State, cell: Cell)

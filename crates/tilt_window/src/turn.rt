@@ -3,11 +3,11 @@ ghost use Rattle.std.specs.Prelude.{◌≡◌, ◌≤◌, ◌<◌, ℤ, List, []
 ghost use Rattle.tilt_base.specs.Reduce.{numbers};
 ghost use Rattle.tilt_window.specs.Stacked.{AreStatesFromEach, IsStacked};
 
+use crate::merge::Merge;
 use crate::state::add_cell;
 use std::alloc::AllocError as OutOfMemory;
 use std::collections::VecDeque;
 use tilt_base::Cell;
-use tilt_reduce::Merge;
 
 // The state of the number of this cell and those of all cells after it.
 fn state_from<R: Merge>(cell: Cell, behind: &VecDeque<R::State>) -> R::State

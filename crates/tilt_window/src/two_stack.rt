@@ -1,6 +1,7 @@
 // The window of two stacks.
 ghost use Rattle.std.specs.Prelude.{◌≡◌, []};
 
+use crate::merge::Merge;
 use crate::state::add_cell;
 use crate::turn::turn_over;
 use crate::window::Window;
@@ -8,7 +9,6 @@ use std::alloc::{AllocError as OutOfMemory, Global};
 use std::collections::VecDeque;
 use std::marker::Model;
 use tilt_base::Cell;
-use tilt_reduce::Merge;
 
 /// A window that keeps its cells. For each of the older ones it keeps the state of the numbers from it to the last of the older
 /// ones. It also keeps one state of the newer ones' numbers. If there are no older cells, `pop_front` turns all newer ones over, to be

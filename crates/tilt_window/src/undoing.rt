@@ -3,12 +3,12 @@ ghost use Rattle.std.specs.Prelude.{◌≡◌, []};
 ghost use Rattle.tilt_window.specs.Taken.{IsFirstTaken};
 
 use crate::state::{add_cell, remove_cell};
+use crate::undo::Undo;
 use crate::window::Window;
 use std::alloc::{AllocError as OutOfMemory, Global};
 use std::collections::VecDeque;
 use std::marker::Model;
 use tilt_base::Cell;
-use tilt_reduce::Undo;
 
 /// A window that keeps its cells and one state of their numbers: each call takes one step, however many cells there are.
 #[derive(Drop)]

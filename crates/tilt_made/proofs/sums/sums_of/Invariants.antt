@@ -1,5 +1,5 @@
 use Rattle.std.proofs.Common.{take}
-use Rattle.tilt_reduce.specs.States.{IsSumAndCount}
+use Rattle.tilt_window.specs.States.{IsSumAndCount}
 use Rattle.tilt_made.specs.Summary.{values}
 use Rattle.tilt_made.proofs.sums.sums_of.Given as goal
 
