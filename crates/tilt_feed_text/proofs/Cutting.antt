@@ -6,13 +6,13 @@ use Rattle.tilt_feed_text.specs.Said.{content}
 use Rattle.tilt_feed_text.specs.declared.pending.TheConstants.{LINE}
 
 -- what is too long stays too long
-take_long : (limit : ℕ) (x : List ℕ) → nat_lt limit (length x) ≡ true → length (take (limit + 1) x) ≡ limit + 1
+pub take_long : (limit : ℕ) (x : List ℕ) → nat_lt limit (length x) ≡ true → length (take (limit + 1) x) ≡ limit + 1
 take_long limit x long =
     let above = ltb-true limit (length x) long in
     length-take-le (limit + 1) x (omega (arith, above))
 
 -- and what is short isn't cut
-take_short : (limit : ℕ) (x : List ℕ) → nat_lt limit (length x) ≡ false → take (limit + 1) x ≡ x
+pub take_short : (limit : ℕ) (x : List ℕ) → nat_lt limit (length x) ≡ false → take (limit + 1) x ≡ x
 take_short limit x short =
     let within = ltb-false limit (length x) short in
     take_all (limit + 1) x (omega (arith, within))

@@ -1,4 +1,3 @@
-pub mod Buffer
 pub mod Committed
 pub mod Feeds
 pub mod Laws

@@ -5,7 +5,6 @@
 //! for the lines of these bytes, and the state after these lines. Behind the state are the bytes of the line that has begun.
 #![tactic(auto)]
 
-mod buffer;
 mod machine;
 mod query;
 mod recipe;

@@ -9,7 +9,6 @@ ghost use Rattle.tilt_run_state.specs.Spelling.{kept_lines, opening};
 ghost use Rattle.tilt_live_state.specs.Spelling as live;
 ghost use Rattle.tilt_run_state.specs.Valid.{IsRunState};
 
-use crate::buffer::Buffer;
 use crate::query::copy;
 use crate::recipe::LiveRecipe;
 use crate::resuming::resume_lines;
@@ -20,6 +19,7 @@ use tilt_exactly_once::{Machine, Refusal, Resumed, Started, Stop};
 use tilt_feed_form::FeedForm;
 use tilt_live_run::{Keep, LiveRun};
 use tilt_outside::Sink;
+use tilt_port::BufferPort;
 use tilt_run_state::{RunState, is_in_range, put_opening, put_state};
 use tilt_syntax::Query;
 
@@ -75,7 +75,7 @@ impl Machine for LiveMachine {
     ghost fits = { Fits };
 
     fn take<E: Sink>(&mut self, alloc: Global, piece: &[u8], err: &mut E) -> Result<Vec<u8>, Stop> {
-        let mut buffer = Buffer::new(alloc);
+        let mut buffer = BufferPort::new(alloc);
         match self.run.take(piece, &mut buffer, err) {
             Ok(()) => {}
             Err(tilt_live_run::Stop::BadLine) => return Err(Stop::BadLine),
@@ -86,7 +86,7 @@ impl Machine for LiveMachine {
             Err(_) => return Err(Stop::OutOfMemory),
         }
         self.taken = self.taken.saturating_add(piece.len() as u64);
-        Ok(buffer.bytes)
+        Ok(buffer.into_bytes())
     }
 
     fn end<E: Sink>(&self, err: &mut E) -> Result<(), Stop> {
@@ -122,7 +122,7 @@ impl Machine for LiveMachine {
         let Ok(opening) = open_states(alloc, &options.form) else {
             return Err(Stop::OutOfMemory);
         };
-        let mut buffer = Buffer::new(alloc);
+        let mut buffer = BufferPort::new(alloc);
         match LiveRun::start(alloc, accepted, options, Keep::State, &mut buffer) {
             Ok(run) => Ok(Started {
                 machine: LiveMachine {
@@ -132,7 +132,7 @@ impl Machine for LiveMachine {
                     tail: Vec::new(alloc),
                     taken: 0,
                 },
-                output: buffer.bytes,
+                output: buffer.into_bytes(),
             }),
             Err(_) => Err(Stop::OutOfMemory),
         }

@@ -1,5 +1,4 @@
 pub mod Adds
-pub mod BytesPort
 pub mod Output
 pub mod Recipe
 pub mod Report

@@ -2,14 +2,14 @@
 ghost use Rattle.std.specs.Prelude.{◌≡◌};
 ghost use Rattle.tilt_live_keys.specs.Recipe.{key_options};
 
-use crate::bytes_port::BytesPort;
 use crate::copies::compile_again;
 use crate::key_recipe::KeyRecipe;
 use std::alloc::{AllocError as OutOfMemory, Global};
-use std::mem::swap;
+use std::mem::replace;
 use tilt_feed_form::{BadFeedLine, FeedForm};
 use tilt_keyed_run::KeyRun;
 use tilt_live_run::{BareRun, RunOptions};
+use tilt_port::BufferPort;
 
 // The run of a query on the lines of one key.
 #[derive(Drop)]
@@ -38,10 +38,9 @@ impl KeyRun for KeyLive {
         output: &mut Vec<u8>,
     ) -> Result<KeyLive, OutOfMemory> {
         let accepted = compile_again(alloc, &recipe.accepted, recipe.fuse)?;
-        let mut port = BytesPort::new(alloc);
-        swap(&mut port.bytes, output);
+        let mut port = BufferPort::over(replace(output, Vec::new(alloc)));
         let started = BareRun::start(alloc, accepted, key_options(recipe), &mut port);
-        swap(&mut port.bytes, output);
+        *output = port.into_bytes();
         match started {
             Ok(run) => Ok(KeyLive { run }),
             Err(_) => Err(OutOfMemory),
@@ -54,10 +53,9 @@ impl KeyRun for KeyLive {
         line: &[u8],
         output: &mut Vec<u8>,
     ) -> Result<Option<BadFeedLine>, OutOfMemory> {
-        let mut port = BytesPort::new(alloc);
-        swap(&mut port.bytes, output);
+        let mut port = BufferPort::over(replace(output, Vec::new(alloc)));
         let taken = self.run.take(line, &mut port);
-        swap(&mut port.bytes, output);
+        *output = port.into_bytes();
         match taken {
             Ok(why) => Ok(why),
             Err(_) => Err(OutOfMemory),

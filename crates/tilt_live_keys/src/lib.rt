@@ -10,7 +10,6 @@
 //! clauses of `keys_are_alone` are the law that each key has the output of a run that has only the lines of the key.
 #![tactic(auto)]
 
-mod bytes_port;
 mod copies;
 mod key_live;
 mod key_recipe;

@@ -1,3 +1,4 @@
+pub mod BufferPort
 pub mod MemPort
 pub mod StdPort
 pub mod Transcript

@@ -26,5 +26,5 @@ returns-clause-is g c = λ of bytes is. record {
 pub returns-clause-adds : goal.returns-clause-adds
 returns-clause-adds g c = λ of bytes is.
     let more = added of.options of.accepted.core bytes c.args.piece.now in
-    let written = (c.in-Ok.ensures.adds of.accepted of.options bytes is.is).whole tt ∙ ap (λ (b : List ℕ). b ++ more) c.new-buffer.ensures in
+    let written = c.into_bytes.ensures ∙ (c.in-Ok.ensures.adds of.accepted of.options bytes is.is).whole tt ∙ ap (λ (b : List ℕ). b ++ more) c.new-buffer.ensures in
     output-more of bytes c.args.piece.now is.no_stop ∙ ap (λ (b : List ℕ). output_for of bytes ++ b) (sym written)
