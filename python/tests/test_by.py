@@ -106,8 +106,12 @@ def test_keys_of_other_scales_are_told(told, tilt):
 
 
 def test_keys_of_other_scales_have_the_same_units(told, tilt):
-    lay_out_scales(told, a=("10", "1"), b=("1", "100"), c=("10", "1"))
-    assert told("by", *BINDS) == (0, "key,start,end,value\na,1,2,4.0\nb,1,2,4.00\nc,1,2,4.0\n", "")
+    """All have the decimals of the one that has the most, so that `table` reads them too."""
+    lay_out_scales(told, a=("10", "1"), b=("1", "100"), c=("10", "1"), d=("1", "1"))
+    assert told("by", *BINDS, "-o", "all.csv") == (0, "", "")
+    assert pathlib.Path("all.csv").read_text() == "key,start,end,value\na,1,2,4.00\nb,1,2,4.00\nc,1,2,4.00\nd,1,2,4.00\n"
+    status, out, err = told("table", "all.csv", "--like", "d/a/x.csv")
+    assert (status, err) == (0, "") and [line.split(",")[-1] for line in out.splitlines()] == ["value", *["4.00"] * 4]
 
 
 def test_a_folder_that_no_key_is_written_as_is_its_own_key(told, tilt):

@@ -133,14 +133,29 @@ def half(data: bytes) -> int:
     return data.rfind(b"\n", 0, len(data) // 2) + 1
 
 
-def test_readings_and_options(live):
-    pathlib.Path("q").write_text("input x; emit x over (0, 3024000000000000000];")
-    options = ("--time", "time", "--tick", "1s", "--scale", "10", "--decimals", "1")
+READINGS = ("--time", "time", "--tick", "1s", "--scale", "10")
+
+
+def test_readings_in_units(told, live):
+    """A number of the query and of the output is one of the readings, whatever the scale; --whole is the way back."""
+    pathlib.Path("q").write_text("input x; emit x + 0.5 when x > 58.5 over (0, 3024000000000000000];")
     data = "time,x\n" + "".join(f"2026-03-01T08:{at // 60:02}:{at % 60:02}Z,{at / 10}\n" for at in range(600))
     for end in (200, len(data) - 4, len(data)):
         write({"a": data[:end].encode()})
-        assert once(*options) == 0
-    assert output("a") == one_run(live, data.encode(), *options) and output("a").endswith(b",59.8\n")
+        assert once(*READINGS) == 0
+    values = [line.split(b",")[2].decode() for line in output("a").splitlines()[1:]]
+    # The last reading isn't over.
+    assert values == [f"{at // 10}.{at % 10}" for at in range(591, 604)] and output("a") == one_run(
+        live, data.encode(), "--units", *READINGS
+    )
+    # The option is the default, and can be given too.
+    assert once(*READINGS, "--units") == 0
+    pathlib.Path("q").write_text("input x; emit x + 5 when x > 585 over (0, 3024000000000000000];")
+    for more, wanted in (((), [str(at) for at in range(591, 604)]), (("--decimals", "1"), values)):
+        words = ["feeds", "q", "feeds/{key}.csv", "--out", f"out{len(more)}", "--once", "--whole", "--", *READINGS, *more]
+        assert told(*words)[0] == 0
+        lines = pathlib.Path(words[4], "a", "output.csv").read_text().splitlines()[1:]
+        assert [line.split(",")[2] for line in lines] == wanted
 
 
 def test_a_folder_in_use_is_tried_again(capfd, monkeypatch, live):
@@ -202,11 +217,19 @@ def test_only_the_keys_of_a_worker_that_goes_move():
         (["q", "feeds/{key}.*"], "feeds/{key}.*: a has 2 files"),
         (["wrong", "feeds/{key}.txt"], "tilt: 27 statement 2: unknown name"),
         (["q", "feeds/{key}.txt", "--workers", "0"], "workers: 1 or more was expected"),
-        (["q", "feeds/{key}.txt", "--", "--evry", "5"], "a: the options of tilt-live after -- are wrong"),
+        (["q", "feeds/{key}.txt", "--", "--evry", "5"], "tilt-data: the options of tilt-live after -- are wrong\n"),
+        (["q", "feeds/{key}.txt", "--whole", "--", "--evry", "5"], "a: the options of tilt-live after -- are wrong\n"),
+        (
+            ["q", "feeds/{key}.txt", "--", *READINGS, "--decimals", "1"],
+            "are wrong: in units the query gives its output the decimals: leave",
+        ),
+        (["half", "feeds/{key}.txt"], "tilt-data: tilt: 114 statement 2: literal not whole\nhalf:1:10: a number isn't whole at the scale"),
+        (["half", "feeds/{key}.txt", "--whole"], "tilt-data: tilt: 20 bad byte at 19\nhalf:1:20: "),
     ],
 )
 def test_what_is_rejected(told, live, words, what):
     pathlib.Path("wrong").write_text("input x; emit y over (0, 10];")
+    pathlib.Path("half").write_text("input x; emit x + 0.5 over (0, 10];")
     if "csv" not in words[1]:
         for end in ("txt", "log"):
             pathlib.Path(f"feeds/a.{end}").write_text("x,0,1,2\n")

@@ -3,6 +3,7 @@
 What the check has to say of each query is written here by the rules of docs/LIVE.md. A script prints it, and so does the program."""
 from __future__ import annotations
 
+import decimal
 import os
 import pathlib
 import random
@@ -17,8 +18,9 @@ from conftest import LIVE, PYTHON
 from tilt_data.clock import Clock
 from tilt_data.errors import TiltError
 from tilt_data.files import Notes
+from tilt_data.scaling import scale
 from tilt_data.unit_table import definition_scales
-from tilt_data.units import Checked, Known, Overflow, checked, known_of
+from tilt_data.units import Checked, Known, Overflow, checked, in_units, known_of
 
 Says = Callable[[str, str], None]
 SCRIPT = """#!/bin/sh
@@ -183,14 +185,91 @@ def test_the_commands_print_the_same_values(told, tilt, says, monkeypatch, name)
         assert [line.split(",")[-1] for line in shown] == QUERIES[name][-1]
 
 
-def test_a_query_in_parts_is_over_whole_numbers(told, tilt, has_check, monkeypatch):
+def test_a_query_in_parts_is_in_units(told, tilt, has_check, monkeypatch):
     monkeypatch.setenv("TILT", tilt)
-    pathlib.Path("q.tilt").write_text("input x; input y; emit x + y over (0, 9];")
-    for scale, note in ((10, "tilt-data: note: the query and its outputs are in whole numbers (x times 10, y times 10);"), (1, "")):
-        put("x", "0,9,25\n", scale), put("y", "0,9,5\n", scale)
-        status, _, err = told("scale", "q.tilt", "x=x.csv", "y=y.csv", "--out", "out")
-        assert status == 0 and ("whole numbers" in err) == bool(note) and note in err
-        assert pathlib.Path("out/output.csv").read_text() == "start,end,value\n0,9,30\n"
+    if not has_check:
+        pytest.skip("the program has no check")
+    monkeypatch.setenv("TILT_LIVE", str(LIVE))
+    pathlib.Path("q.tilt").write_text("input x; input y; emit x + y + 1 over (0, 9];")
+    for factor, whole, wanted in ((10, (), "4.0"), (10, ("--whole",), "31"), (1, (), "31"), (1, ("--whole",), "31")):
+        put("x", "0,9,25\n", factor), put("y", "0,9,5\n", factor)
+        status, _, err = told("scale", "q.tilt", "x=x.csv", "y=y.csv", "--out", "out", *whole)
+        assert (status, "note" in err) == (0, False), err
+        assert pathlib.Path("out/output.csv").read_text() == f"start,end,value\n0,9,{wanted}\n"
+    # Over whole numbers scales that differ matter, and no number has a point.
+    put("x", "0,9,250\n", 100), put("y", "0,9,5\n", 10)
+    binds = ("x=x.csv", "y=y.csv", "--out", "out")
+    assert told("scale", "q.tilt", *binds)[0] == 0 and pathlib.Path("out/output.csv").read_text() == "start,end,value\n0,9,4.00\n"
+    assert "the inputs have different scales (x: 100; y: 10)" in told("scale", "q.tilt", *binds, "--whole")[2]
+    pathlib.Path("q.tilt").write_text("input x; input y; emit x + y + 0.125 over (0, 9];")
+    for whole, line in ((), "tilt: 114 statement 3: literal not whole\nq.tilt:1:19: "), (
+        ("--whole",),
+        "tilt: 20 bad byte at 32\nq.tilt:1:33: ",
+    ):
+        status, _, err = told("scale", "q.tilt", *binds, *whole)
+        assert status == 1 and err.startswith(f"tilt-data: {line}")
+
+
+def test_outputs_of_keys_with_other_scales(told, tilt, has_check, monkeypatch):
+    """All have the decimals of the key that has the most. Small keys share a task only if they share the query over whole numbers."""
+    monkeypatch.setenv("TILT", tilt)
+    if not has_check:
+        pytest.skip("the program has no check")
+    monkeypatch.setenv("TILT_LIVE", str(LIVE))
+    pathlib.Path("q.tilt").write_text("input x; emit x * 2 when x > 1.5 over (0, 9];")
+    wanted = {}
+    for key in range(70):
+        scale = (10, 1000, 100)[key * 3 // 70]
+        put(f"k{key}", f"0,4,{scale}\n4,9,{2 * scale + key}\n", scale)
+        thousandths = 2 * (2000 + key * 1000 // scale)
+        wanted[f"{key}.csv"] = f"start,end,value\n4,9,{thousandths // 1000}.{thousandths % 1000:03}\n"
+    assert told("scale", "q.tilt", "x=k{key}.csv", "--out", "out", "--workers", "2")[0] == 0
+    assert {path.name: path.read_text() for path in pathlib.Path("out").glob("*.csv")} == wanted
+    # Without those of a thousand there are two decimals, and so all outputs are made again.
+    for key in range(24, 47):
+        os.unlink(f"k{key}.csv")
+    status, _, err = told("scale", "q.tilt", "x=k{key}.csv", "--out", "out", "--workers", "2")
+    assert status == 0 and err.startswith("tilt-data: outputs of earlier calls ") and "tilt-data: 47 parts; " in err
+    assert pathlib.Path("out/0.csv").read_text() == "start,end,value\n4,9,4.00\n"
+
+
+def test_files_of_one_input_with_other_scales_are_rejected(told, tilt, monkeypatch):
+    monkeypatch.setenv("TILT", tilt)
+    pathlib.Path("q.tilt").write_text("input x; emit x over (0, 9];")
+    put("a", "0,4,25\n", 10), put("b", "4,9,25\n", 10)
+    os.unlink("b.json")
+    status, _, err = told("scale", "q.tilt", "x=a.csv", "x=b.csv", "--out", "out")
+    assert status == 1 and re.match(
+        r"tilt-data: x: /\S+/b.csv has no JSON file beside it, and others have the scale 10: write it ", err
+    ), err
+    assert told("scale", "q.tilt", "x=a.csv", "x=b.csv", "--out", "out", "--whole")[0] == 0
+    # Of one that was written to since, the scale isn't known.
+    text = pathlib.Path("a.json").read_text()
+    pathlib.Path("a.json").write_text(text.replace('"scale"', '"size": 99,\n "scale"'))
+    status, _, err = told("scale", "q.tilt", "x=a.csv", "--out", "out")
+    assert status == 1 and "a.csv: it has 23 bytes, and its JSON file describes one of 99 (" in err, err
+
+
+def test_what_can_overflow_in_parts(told, tilt, has_check, monkeypatch):
+    """No row is read for it: a file of so many bytes has no more than so many marks."""
+    monkeypatch.setenv("TILT", tilt)
+    if not has_check:
+        pytest.skip("the program has no check")
+    monkeypatch.setenv("TILT_LIVE", str(LIVE))
+    put("x", "0,9,1000000000\n")
+    for factor, overflows in ((1, False), (10**9, True)):
+        pathlib.Path("q.tilt").write_text(f"input x; emit sum(x[t-20000000000:t]) * {factor} over (0, 9];")
+        status, _, err = told("scale", "q.tilt", "x=x.csv", "--out", "out")
+        assert status == 0 and ("note: emit (statement 2) can leave 64 bits" in err) == overflows, err
+
+
+def test_lines_in_units():
+    draws = random.Random(4)
+    for _ in range(2000):
+        decimals = draws.randrange(5)
+        shown, value = decimals + draws.randrange(4), draws.choice([1, -1]) * draws.randrange(10 ** draws.randrange(1, 19))
+        wanted = f"{decimal.Decimal(value).scaleb(-decimals):.{shown}f}" if value else f"{0:.{shown}f}"
+        assert list(in_units([f"-3,05,{value}\n"], decimals, shown)) == [f"-3,05,{wanted}\n"], (value, decimals, shown)
 
 
 def test_random_queries_print_what_tilt_live_prints(tilt, has_check, monkeypatch):
@@ -198,7 +277,7 @@ def test_random_queries_print_what_tilt_live_prints(tilt, has_check, monkeypatch
         pytest.skip("the program has no check")
     monkeypatch.setenv("TILT", tilt)
     monkeypatch.setenv("TILT_LIVE", str(LIVE))
-    draw = random.Random(19)
+    draw, several = random.Random(19), 0
     for _ in range(60):
         text, rows, scales = random_case(draw)
         pathlib.Path("q.tilt").write_text(text)
@@ -213,6 +292,15 @@ def test_random_queries_print_what_tilt_live_prints(tilt, has_check, monkeypatch
         assert (status, out) == (live.returncode, live.stdout), text
         # A query that is rejected is so by the same line, and then its place follows.
         assert err.startswith(live.stderr) and (status or not err), text
+        files = {name: f"{name}.csv" for name in rows}
+        if status:
+            with pytest.raises(TiltError, match=f"^{re.escape(live.stderr)}"):
+                scale(pathlib.Path("q.tilt"), files, "out", workers=1)
+        else:
+            made = scale(pathlib.Path("q.tilt"), files, "out", workers=1, part_rows=1)
+            assert pathlib.Path("out/output.csv").read_text() == live.stdout, text
+            several += made.parts > 1 and "." in live.stdout
+    assert several > 5
 
 
 # What can overflow
@@ -338,7 +426,7 @@ def test_bounds_are_decimals_that_are_exact_at_the_scale():
 
 def test_a_scale_by_the_data_has_room_for_the_numbers_of_the_query(tilt, says, monkeypatch):
     pandas = pytest.importorskip("pandas")
-    from tilt_data import frames
+    from tilt_data import frames, units
 
     asked: list[int] = []
 
@@ -349,7 +437,7 @@ def test_a_scale_by_the_data_has_room_for_the_numbers_of_the_query(tilt, says, m
         return Checked("input x; emit x when x > 9025 over (0, 9];", 2)
 
     monkeypatch.setenv("TILT", tilt)
-    monkeypatch.setattr(frames, "checked", check)
+    monkeypatch.setattr(units, "checked", check)
     monkeypatch.setattr(frames, "overflow_of", lambda *_: None)
     data = pandas.Series([90, 91], pandas.date_range("2026-03-01", periods=2, freq="1s"))
     query = "input x; emit x when x > 90.25 over (0, 9];"

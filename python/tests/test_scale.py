@@ -32,6 +32,7 @@ from tilt_data.parts import Domain, Part
 from tilt_data.program import Called, Cancelled, Processes
 from tilt_data.scaling import Plan, files_of
 from tilt_data.tokens import tokens_of
+from tilt_data.units import write_in_units
 
 HEADER = "start,end,value\n"
 FAR = 4 * 10**18
@@ -853,6 +854,19 @@ def test_keys_and_days(either, here):
     )
 
 
+def test_outputs_in_units(either, here, live, monkeypatch):
+    """With decimals on each of them: what one run over whole numbers prints, with a point before the last two digits."""
+    monkeypatch.setenv("TILT_LIVE", live)
+    rows = [(at, at + 1, value) for at, _, value in series(4, 4000, 1, 900)]
+    notes = {"tilt-data": 1, "name": "x", "tick": "1s", "origin": "2026-03-01T00:00:00", "scale": 100}
+    pathlib.Path("x.csv").write_text(text_of(rows))
+    pathlib.Path("x.json").write_text(json.dumps(notes))
+    found = scale("input x; emit x - 4.5 over (0, 4000];", {"x": "x.csv"}, "out", **either.options, part_rows=500)
+    whole = run_program(str(PROGRAM), "input x; emit x - 450 over (0, 4000];", "x=x.csv").splitlines()
+    wanted = "".join(f"{front},{int(value) / 100:.2f}\n" for front, _, value in (line.rpartition(",") for line in whole[1:]))
+    assert outputs(found) == {"output": HEADER + wanted} and found.made == 7 and "-" in wanted
+
+
 BINDS = [f"{name}={files}" for name, files in INPUTS.items()]
 COMMAND = [sys.executable, str(TOP / "tools" / "package" / "tilt-data"), "scale", "q", *BINDS, "--out", "out"]
 
@@ -1280,6 +1294,8 @@ def test_long_loops_over_files_can_be_stopped(tmp_path):
         ranges.plain_of(str(path), ranges.stamp_of(str(path)), str(tmp_path / "plain"), processes.check)
     with pytest.raises(Cancelled):
         tasks.make_whole(tasks.Joining("", ((Part(1, 0, 9), str(tmp_path / "1")),), str(tmp_path / "whole")), processes)
+    with pytest.raises(Cancelled), open(os.devnull, "w") as out:
+        write_in_units(str(tmp_path / "1"), out, 1, 1, processes.check)
     with pytest.raises(Cancelled):
         processes.call(["explain"], 1)
     assert sorted(os.listdir(tmp_path)) == ["1", "plain", "quoted.csv"] and not os.listdir(tmp_path / "plain")
@@ -1375,14 +1391,16 @@ def test_clocks_that_differ(here):
 
 
 @pytest.mark.parametrize("other, what", [({"scale": 100}, "scales"), ({"closed": "right"}, "`closed`")])
-def test_scales_and_conventions_that_differ(here, other, what):
-    """20.5 and 3.25 aren't 53 because each has a scale of its own."""
+def test_scales_and_conventions_that_differ(here, live, other, what):
+    """0.7 and 0.07 are 0.77. Over whole numbers the scales matter."""
     beside("x.csv", scale=10)
     beside("y.csv", **{"scale": 10, **other})
-    found = scale("input x; input y; emit x + y over (0, 10];", {"x": "x.csv", "y": "y.csv"}, "out", workers=1)
-    whole, note = found.notes
-    assert whole.startswith("note: the query and its outputs are in whole numbers (x times 10, y times ")
-    assert note.startswith("note: ") and what in note
+    query, inputs = "input x; input y; emit x + y over (0, 10];", {"x": "x.csv", "y": "y.csv"}
+    (note,) = scale(query, inputs, "out", workers=1, whole=True).notes
+    assert note.startswith("note: ") and what in note and pathlib.Path("out/output.csv").read_text() == HEADER + "0,5,14\n"
+    found = scale(query, inputs, "out", workers=1)
+    assert found.notes == ([] if "scale" in other else [note])
+    assert pathlib.Path("out/output.csv").read_text() == HEADER + f"0,5,{'0.77' if 'scale' in other else '1.4'}\n"
     pathlib.Path("y.csv").write_text(HEADER + "6,8,1\n")
     with pytest.raises(Refused, match=f"^x: .*{what}"):
         scale("input x; emit x over (0, 10];", {"x": ["x.csv", "y.csv"]}, "more", workers=1)

@@ -14,11 +14,10 @@ from typing import Any, Iterator, NamedTuple
 from .clock import Clock
 from .errors import Refused, TiltError, note, printable
 from .files import Notes, keys_and_files, scratch, unsafe, writing
-from .grammar import inputs_in
 from .program import Processes, call
 from .progress import shown
-from .running import in_units, readable
-from .units import Overflow, checked, is_in_units, overflow_of_files, scales_of_files
+from .running import readable
+from .units import Overflow, Units, in_units, overflow_of_files
 from .why import bound, clashes, known_notes, refusal_of, text_of
 
 HELP = """Runs a query for each key. An argument NAME=FILE with {key} in FILE names another file for each key. For what `tilt-data series
@@ -59,20 +58,17 @@ def keys_of(pattern: str) -> list[str]:
 
 
 class Runs:
-    """The runs of a query for each key. A query in units is translated once for all keys whose series have the same scales."""
+    """The runs of a query for each key."""
 
     def __init__(self, words: argparse.Namespace, folder: str) -> None:
         self.words, self.folder, self.running = words, folder, Processes()
         self.path = readable(words.query, folder)
-        self.text = text_of(self.path)
-        self.names = inputs_in(self.text)
-        self.known: dict[tuple[int, ...], tuple[str, int]] = {}
+        self.units = Units(text_of(self.path), words.query, words.whole)
+        # The files of the queries over whole numbers.
+        self.paths: dict[str, str] = {}
 
     def files(self, key: str) -> dict[str, str]:
         return bound([self.path, *(word.replace("{key}", key) for word in self.words.binds)])
-
-    def scales(self, files: dict[str, str]) -> dict[str, int]:
-        return {name: 1 for name in self.names if name in files} if self.words.whole else scales_of_files(self.names, files)
 
     def overflows(self, keys: list[str]) -> Iterator[Overflow]:
         """The first overflow of the query, over the numbers of all keys whose series have the same scales."""
@@ -80,22 +76,22 @@ class Runs:
         for key in keys:
             with contextlib.suppress(Refused):
                 files = self.files(key)
-                by_scales.setdefault(tuple(self.scales(files).values()), []).append(files)
+                scales = self.units.scales(files)
+                self.units.whole(scales)
+                by_scales.setdefault(tuple(scales.values()), []).append(files)
         for each in by_scales.values():
-            overflow = overflow_of_files(self.path, self.scales(each[0]), each)
+            overflow = overflow_of_files(self.path, self.units.scales(each[0]), each)
             if overflow is not None:
                 yield overflow
 
     def whole(self, files: dict[str, str]) -> tuple[str, int]:
         """The file of the query over whole numbers, if its inputs have these files, and the decimals of its output."""
-        scales = self.scales(files)
-        if self.words.whole or not is_in_units(self.text, scales.values()):
+        whole = self.units.whole(self.units.scales(files))
+        if whole is None:
             return self.path, 0
-        given = tuple(scales.values())
-        if given not in self.known:
-            found = checked(self.path, scales, name=self.words.query)
-            self.known[given] = found.put(tempfile.mkdtemp(dir=self.folder)), found.decimals
-        return self.known[given]
+        if whole.query not in self.paths:
+            self.paths[whole.query] = whole.put(tempfile.mkdtemp(dir=self.folder))
+        return self.paths[whole.query], whole.decimals
 
     def run(self, number: int, key: str) -> Done:
         """Runs the query for a key. A thread calls it."""
@@ -173,7 +169,7 @@ def main(words: argparse.Namespace) -> int:
                 if not words.keep_going:
                     break
             else:
-                out.writelines(keyed(done))
+                out.writelines(keyed(done, runs.units.decimals))
             os.unlink(done.file)
         if refused and not words.keep_going:
             tell(refused)
@@ -186,12 +182,12 @@ def main(words: argparse.Namespace) -> int:
     return 1 if refused else 0
 
 
-def keyed(done: Done) -> Iterator[str]:
-    """The lines of an output with the key as their first column, as CSV."""
+def keyed(done: Done, decimals: int) -> Iterator[str]:
+    """The lines of an output with the key as their first column, as CSV; all keys have so many decimals."""
     key = f'"{done.key.replace(chr(34), chr(34) * 2)}"' if re.search(r'[",\r\n]', done.key) else done.key
     with open(done.file, encoding="ascii") as file:
         next(file, None)
-        yield from (f"{key},{line}" for line in in_units(file, done.decimals))
+        yield from (f"{key},{line}" for line in in_units(file, done.decimals, decimals))
 
 
 def tell(refused: list[Done]) -> None:

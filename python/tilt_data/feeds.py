@@ -17,7 +17,7 @@ import resource
 import subprocess
 import sys
 import time
-from typing import Any, NamedTuple
+from typing import Any, NamedTuple, Sequence
 
 from . import engine
 from .errors import Refused, TiltError, note
@@ -25,12 +25,15 @@ from .files import keys_and_files
 from .frames import Query
 from .program import REFUSALS, Processes, program
 from .tasks import Made, check_program, program_digest, task
+from .units import checked_by
 
 HELP = """Runs `tilt-live QUERY --folder FOLDER/KEY` for each key over a file of lines that grows, on this machine or on the workers of a
 Dask scheduler, until Ctrl-C. FEEDS has {key} in the place of the key, as in feeds/{key}.csv; files that come later are found. If a worker
-or a call is killed, the feeds go on elsewhere or with the next call, and no row of FOLDER/KEY/output.csv is lost or there twice."""
+or a call is killed, the feeds go on elsewhere or with the next call, and no row of FOLDER/KEY/output.csv is lost or there twice. Numbers in
+the query and in the outputs are in the units of the lines; -- --scale 10 says that these are tenths."""
 # What can pass: another program still has the folder, or a shared disk doesn't show here yet what another machine has read.
 PASSING = ("tilt: 60 ", "tilt: 64 ")
+WRONG = "the options of tilt-live after -- are wrong"
 # Seconds: of a lease, until lines that come are handed on, until a pipe that is full is tried again, and until a feed that failed is.
 LEASE, POLL, FULL, PAUSE = 5.0, 0.05, 0.002, 1.0
 # How many bytes are read at once, more than a line has; how many before its position a folder compares; how many lines of a feed are shown.
@@ -60,11 +63,8 @@ class Served:
     """A feed on its way to the program."""
 
     def __init__(self, lease: Lease, feed: Feed, processes: Processes, pool: concurrent.futures.Executor, stack: contextlib.ExitStack):
-        folder, options = ["--folder", feed.folder], list(lease.options)
-        at = options.index("--every") if "--every" in options else len(options)
-        asked = processes.call(
-            [lease.query, *folder, "--position", *options[:at], *options[at + 2 :]], subprocess.PIPE, command="tilt-live"
-        )
+        folder = ["--folder", feed.folder]
+        asked = processes.call([lease.query, *folder, "--position", *without_every(lease.options)], subprocess.PIPE, command="tilt-live")
         if asked.status:
             raise TiltError(asked.told, asked.status)
         self.source = os.open(feed.file, os.O_RDONLY | os.O_CLOEXEC)
@@ -78,7 +78,7 @@ class Served:
         stack.callback(self.end)
         os.set_blocking(self.writer, False)
         self.left = b""
-        words = [lease.query, *folder, "--from", str(self.at), *options]
+        words = [lease.query, *folder, "--from", str(self.at), *lease.options]
         self.call = pool.submit(processes.call, words, None, reader, (), "tilt-live")
 
     def step(self, more: bool) -> int:
@@ -140,6 +140,26 @@ def hand_on(served: list[Served], ends: float, once: bool, processes: Processes)
             break
         if not moved:
             time.sleep(FULL if waits else POLL)
+
+
+def without_every(options: Sequence[str]) -> list[str]:
+    """The options that say what lines and rows are, and not when rows are committed."""
+    at = options.index("--every") if "--every" in options else len(options)
+    return [*options[:at], *options[at + 2 :]]
+
+
+def check_query(query: str, options: Sequence[str], is_whole: bool) -> None:
+    """Rejects a query, and in units also options, before any feed is served."""
+    if is_whole:
+        Query(pathlib.Path(query)).explain(is_whole)
+        return
+    try:
+        checked_by(query, without_every(options))
+    except TiltError as error:
+        if error.status != 2:
+            raise
+        cure = ": in units the query gives its output the decimals: leave out --decimals, or add --whole" if "--decimals" in options else ""
+        raise TiltError(f"{WRONG}{cure}", 2) from error
 
 
 def place_of(key: str, count: int) -> int:
@@ -211,7 +231,7 @@ class Run:
             self.done |= {key} if self.lease.once else set()
             return
         if made.status == 2:
-            raise TiltError(f"{key}: the options of tilt-live after -- are wrong", 2)
+            raise TiltError(f"{key}: {WRONG}", 2)
         self.failures[key] += 1
         self.later[key] = time.monotonic() + PAUSE
         if made.status in REFUSALS and not made.line.startswith(PASSING) or self.failures[key] > self.engine.retries:
@@ -232,6 +252,7 @@ def add(commands: Any) -> None:
         "--scheduler", metavar="ADDRESS", help=f"{address}; anyone who reaches a tcp:// address can run code on its workers"
     )
     parser.add_argument("--retries", type=int, metavar="N", default=3, help="how often a feed that fails is tried again (3)")
+    parser.add_argument("--whole", action="store_true", help="the query and its outputs are in whole numbers, as for `tilt`")
     parser.set_defaults(main=main)
     parser.parse_known_args = functools.partial(with_options, parser.parse_known_args)
 
@@ -246,9 +267,12 @@ def with_options(parse: Any, given: list[str], *more: Any) -> tuple[argparse.Nam
 
 def main(words: argparse.Namespace) -> int:
     engine.prepare(words)
-    Query(pathlib.Path(words.query)).explain()
+    # In units these may be asked for too.
+    options = [option for option in words.options if words.whole or option != "--units"]
+    check_query(words.query, options, words.whole)
     digest = program_digest(program("tilt-live"))
-    lease = Lease(0, os.path.abspath(words.query), tuple(words.options), digest, LEASE, words.once, ())
+    units = [] if words.whole else ["--units"]
+    lease = Lease(0, os.path.abspath(words.query), (*options, *units), digest, LEASE, words.once, ())
     os.makedirs(words.out, exist_ok=True)
     with engine.opened(words.scheduler, words.workers, words.retries) as its:
         run = Run(lease, words.feeds, words.out, its)

@@ -25,7 +25,7 @@ from .over import Extent, Over, cut_note, edges_of, over_of
 from .program import REFUSALS, Explained
 from .rows import RowArrays, arrays_in, beyond, fits, marks_in, output_of, rows_pushed
 from .tokens import decimals_in, without_points
-from .units import Checked, Known, checked, counted, is_in_units, longest_window, noted, overflow_of
+from .units import Checked, Known, Units, counted, longest_window, noted, overflow_of
 from .whole import digits_in, whole_numbers
 
 if TYPE_CHECKING:
@@ -85,9 +85,14 @@ class Query:
             plain = without_points(self.text.encode()).decode()
             return sessions.explained(self.put(folder), self.put(folder, plain, "plain.tilt"), self.name)
 
-    def explain(self) -> Explained:
-        """How far it looks and which loops it has; a query that is refused raises a TiltError with the place."""
-        return self.explained
+    def explain(self, is_whole: bool = False) -> Explained:
+        """How far it looks and which loops it has; a query that is refused raises a TiltError with the place. One over whole numbers has no
+        decimals."""
+        if not is_whole:
+            return self.explained
+        with scratch() as folder:
+            path = self.put(folder)
+            return sessions.explained(path, path, self.name)
 
     def put(self, folder: str, text: str | None = None, name: str = "query.tilt") -> str:
         """Writes the query, or a text in its place, to a folder: the path."""
@@ -99,16 +104,13 @@ class Query:
     def over_whole(self, inputs: Inputs, is_whole: bool = False) -> Checked:
         """The query over whole numbers. If a number in it isn't whole at a scale that the data give, they get the scale of all numbers."""
         text = self.text.encode()
-        if is_whole or not is_in_units(text, inputs.scales.values()):
-            return Checked(self.text)
-        with scratch() as folder:
-            path = self.put(folder)
-            try:
-                return checked(path, inputs.scales, name=self.name)
-            except TiltError as error:
-                if not error.line.startswith("tilt: 114 ") or not inputs.refine(10 ** decimals_in(text)):
-                    raise
-            return checked(path, inputs.scales, name=self.name)
+        units = Units(text, self.name, is_whole)
+        try:
+            return units.whole(inputs.scales) or Checked(self.text)
+        except TiltError as error:
+            if not error.line.startswith("tilt: 114 ") or not inputs.refine(10 ** decimals_in(text)):
+                raise
+        return units.whole(inputs.scales) or Checked(self.text)
 
     def run(self, data: Any = None, **options: Unpack[RunOptions]) -> pandas.DataFrame:
         """What `tilt run` prints, as a DataFrame with the column `value`; see `run`."""

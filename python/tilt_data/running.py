@@ -8,7 +8,7 @@ import argparse
 import dataclasses
 import os
 import sys
-from typing import Any, Callable, Iterable, Iterator, TypeVar
+from typing import Any, Callable, TypeVar
 
 from .clock import duration_of
 from .errors import TiltError, note, printable
@@ -16,9 +16,8 @@ from .files import scratch, spooled, writing
 from .grammar import inputs_in
 from .hints import in_time, unfilled
 from .program import Called, Explained, call
-from .scales import decimal_text
 from .tokens import decimals_in, without_points
-from .units import Checked, checked, is_in_units, overflow_of_files, scales_of_files
+from .units import Checked, Units, checked, overflow_of_files, write_in_units
 from .why import bound, clashes_of, refusal_of, text_of
 
 WHOLE = "--whole"
@@ -36,13 +35,6 @@ def with_program_lines(main: Callable[[T], int]) -> Callable[[T], int]:
             return error.status
 
     return called
-
-
-def in_units(lines: Iterable[str], decimals: int) -> Iterator[str]:
-    """The lines of rows with their values as decimals."""
-    for line in lines:
-        front, _, value = line.rpartition(",")
-        yield f"{front},{decimal_text(int(value), 10**decimals)}\n" if decimals else line
 
 
 def readable(query: str, folder: str) -> str:
@@ -68,9 +60,8 @@ def run_in_units(whole: Checked, words: list[str], folder: str) -> Called:
         return call(["run", path, *words], None, None)
     with open(out, "wb") as file:
         called = call(["run", path, *words], file, None)
-    with open(out, encoding="ascii") as lines, writing(None) as shown:
-        shown.write(next(lines, ""))
-        shown.writelines(in_units(lines, whole.decimals))
+    with writing(None) as shown:
+        write_in_units(out, shown, whole.decimals, whole.decimals)
     return called
 
 
@@ -81,11 +72,9 @@ def run(words: list[str]) -> int:
     with scratch() as folder:
         path = readable(query, folder)
         given = [path, *others][: len(words)]
-        text, files = text_of(path), bound(given)
-        names = [name for name in inputs_in(text) if name in files]
-        scales = dict.fromkeys(names, 1) if WHOLE in words else scales_of_files(names, files)
-        is_whole = WHOLE in words or not is_in_units(text, scales.values())
-        whole = None if is_whole else checked(path, scales, name=query)
+        files, units = bound(given), Units(text_of(path), query, WHOLE in words)
+        scales = units.scales(files)
+        whole = units.whole(scales)
         overflow = overflow_of_files(path, scales, [files])
         if overflow is not None:
             note(f"note: {overflow}")

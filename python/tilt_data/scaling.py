@@ -5,6 +5,7 @@ import argparse
 import collections
 import contextlib
 import dataclasses
+import functools
 import glob
 import json
 import math
@@ -12,19 +13,20 @@ import os
 import pathlib
 import time
 import urllib.parse
-from typing import TYPE_CHECKING, Any, Iterable, Iterator, Mapping, Sequence, Union
+from typing import TYPE_CHECKING, Any, Iterable, Iterator, Mapping, NamedTuple, Sequence, Union
 
 from . import engine, ranges, tasks
 from .errors import Refused, TiltError, note
-from .files import PLACED, failing_at, keys_and_files, locked, placed
+from .files import PLACED, failing_at, keys_and_files, locked, notes_of, placed
 from .frames import Query
 from .parts import Domain, Part
 from .program import program
 from .progress import Bar
 from .ranges import NotPlain, Piece, Range, Series
 from .tasks import Batch, Joining, Made, Stretch, Task
+from .units import Checked, Known, Overflow, Units, joined, longest_window, noted, scales_of_files
 from .version import VERSION as RELEASE
-from .why import clashes_of, known_notes
+from .why import clashes_of
 
 if TYPE_CHECKING:
     Files = Union[str, os.PathLike[str], Sequence[Union[str, os.PathLike[str]]]]
@@ -32,8 +34,8 @@ if TYPE_CHECKING:
 HELP = """Runs a query over files that are too many or too long for one run: for each key, and for parts of the output domain. The parts
 run on this machine, several at a time (--workers), or on the workers of a Dask scheduler (--scheduler). An argument NAME=FILES has {key} in
 the place of the key, and * and ? for other characters, as in temperature=data/{key}/day-*.csv. Several arguments can have one NAME. The
-folder of --out gets KEY.csv for each key, or output.csv without keys: the bytes that one run over all rows prints. What is finished is
-kept, so that the same call continues after it was stopped."""
+folder of --out gets KEY.csv for each key, or output.csv without keys: the bytes that one run over all rows prints. Numbers in the query
+and in the outputs are in the units of the series. What is finished is kept, so that the same call continues after it was stopped."""
 ALONE = "output"
 PART_ROWS = 1_000_000
 # What changes when the parts of earlier versions aren't to be taken.
@@ -59,6 +61,7 @@ def add(commands: Any) -> None:
     parser.add_argument("--scheduler", metavar="ADDRESS", help=f"{address}; {danger}")
     parser.add_argument("--part-rows", type=int, metavar="N", default=PART_ROWS, help=f"about how many rows a part has ({PART_ROWS})")
     parser.add_argument("--retries", type=int, metavar="N", default=3, help="how often a task that fails is started again (3)")
+    parser.add_argument("--whole", action="store_true", help="the query and its outputs are in whole numbers, as for `tilt`")
     parser.set_defaults(main=main)
 
 
@@ -139,33 +142,81 @@ def bound(binds: Sequence[str]) -> dict[str, list[str]]:
 # The plan
 
 
+class Whole(NamedTuple):
+    """The query over whole numbers of a key: its output domain, and how many decimals its output has."""
+
+    domain: Domain
+    decimals: int
+
+
 class Plan:
     """What to make: the query, how far it looks, the files of each key, and where everything is written."""
 
-    def __init__(self, query: Query, inputs: Mapping[str, Sequence[str]], out: str) -> None:
+    def __init__(self, query: Query, inputs: Mapping[str, Sequence[str]], out: str, is_whole: bool = False) -> None:
         try:
-            self.needs = query.explain().inputs
+            self.needs = query.explain(is_whole).inputs
             self.program = tasks.program_digest(program())
         except OSError as error:
             raise Refused(f"the program can't be run: {error.strerror}") from error
-        self.domain = Domain.of(query.text)
         missing = next((name for name in self.needs if name not in inputs), None)
         other = next((name for name in inputs if name not in self.needs), None)
         if missing is not None or other is not None:
             what = f"{missing} isn't bound: {missing}=FILES" if missing is not None else f"not {other}"
             raise Refused(f"{what}: the query reads {', '.join(self.needs) or 'no inputs'}")
         self.files = files_of(inputs)
-        # All rows of the files of one input go to the program as one series.
-        several = {tuple(paths): name for its in self.files.values() for name, paths in its.items() if len(paths) > 1}
-        for paths, name in several.items():
-            clash = clashes_of({path: path for path in paths})
-            if clash:
-                raise Refused(f"{name}: {clash}")
+        self.read = functools.cache(notes_of)
+        self.units = Units(query.text.encode(), query.name, is_whole, self.read)
+        self.check_files()
+        wholes = {key: self.units.whole(self.scales(key)) or Checked(query.text) for key in self.files}
+        domains = {text: Domain.of(text) for text in {whole.query for whole in wholes.values()}}
+        self.wholes = {key: Whole(domains[whole.query], whole.decimals) for key, whole in wholes.items()}
+        # Over whole numbers the statements differ in their numbers alone, and in how many tokens they have.
+        self.domain = max(domains.values(), key=lambda domain: domain.least)
         self.out = os.path.abspath(out)
         self.plain = os.path.join(self.out, "plain")
         self.known: dict[str, Series | None] = {}
         # How many bytes of series the output rests on, how many cuts were moved, and how many have no place.
         self.bytes = self.moved = self.fewer = 0
+
+    def check_files(self) -> None:
+        """Rejects files of one input whose notes differ: all their rows go to the program as one series."""
+        several = {tuple(paths): name for its in self.files.values() for name, paths in its.items() if len(paths) > 1}
+        for paths, name in several.items():
+            clash = clashes_of({path: path for path in paths}, read=self.read)
+            if clash:
+                raise Refused(f"{name}: {clash}")
+            scales = {} if self.units.is_whole else {path: scales_of_files([name], {name: path}, self.read)[name] for path in paths}
+            if len(set(scales.values())) > 1:
+                lacking, scale = min(scales, key=scales.__getitem__), max(scales.values())
+                raise Refused(f"{name}: {lacking} has no JSON file beside it, and others have the scale {scale}: write it again")
+
+    def scales(self, key: str) -> dict[str, int]:
+        """The scales of the inputs of a key."""
+        return self.units.scales({name: paths[0] for name, paths in self.files[key].items()})
+
+    def numbers(self, key: str, ticks: int) -> dict[str, Known]:
+        """What the notes say of the numbers of the inputs of a key, as far as all files of an input have notes with these. No row is read:
+        the shortest one has 5 bytes, and a row has two marks at most."""
+        found: dict[str, Known] = {}
+        for name, paths in self.files[key].items():
+            its = [noted({name: path}, self.read) for path in paths]
+            if all(its):
+                marks = min(ticks, sum(map(os.path.getsize, paths)) // 5 * 2)
+                found[name] = joined(its)[name]._replace(marks=max(1, marks), ticks=ticks)
+        return found
+
+    def overflows(self) -> Iterator[Overflow]:
+        """The first overflow of the query at each of the scales, over the numbers of all keys whose series have them."""
+        ticks = longest_window(self.units.text) + 1
+        each: dict[tuple[tuple[str, int], ...], list[dict[str, Known]]] = {}
+        for key in self.files:
+            each.setdefault(tuple(self.scales(key).items()), []).append(self.numbers(key, ticks))
+        for scales, some in each.items():
+            if scales and all(len(one) == len(scales) for one in some):
+                known = joined(some)
+                overflow = self.units.overflow(dict(scales), known)
+                if overflow is not None:
+                    yield overflow
 
     def inputs(self, key: str) -> dict[str, list[Series]]:
         """The files of each input that have rows, in the order of these. Each file is looked at once in a call."""
@@ -229,11 +280,11 @@ class Plan:
 
     def tasks(self, key: str, parts: list[Part]) -> list[Task]:
         """The tasks of the parts of a key. If there are many keys, the one part of a small key is its output."""
-        inputs, found = self.inputs(key), list[Task]()
+        inputs, found, whole = self.inputs(key), list[Task](), self.wholes[key]
         small = len(self.files) >= MANY and sum(one.end for its in inputs.values() for one in its) <= SMALL
         for part in parts:
-            query = self.domain.query(part.start, part.end)
-            texts, stretches = [f"{FORMAT} {self.program} {len(query)} {query}"], []
+            query = whole.domain.query(part.start, part.end)
+            texts, stretches = [f"{FORMAT} {self.program} {whole.decimals} {self.units.decimals} {len(query)} {query}"], []
             for name, files in inputs.items():
                 low, high = self.stretch(name, part.start, part.end)
                 its = ranges.meeting(files, low, high)
@@ -247,28 +298,29 @@ class Plan:
         return found
 
     def batch(self, *some: Task) -> Batch:
-        """Tasks of the same stretch, to be carried out together."""
-        part = some[0].part
-        return Batch(self.domain.query(part.start, part.end), self.program, self.plain, some)
+        """Tasks of the same query and stretch, to be carried out together."""
+        (domain, decimals), part = self.wholes[some[0].key], some[0].part
+        return Batch(domain.query(part.start, part.end), self.program, self.plain, some, decimals, self.units.decimals)
+
+    def fit(self, task: Task, other: Task) -> bool:
+        """Whether two tasks can be carried out together: each makes the output of its key, by the same query."""
+        return is_whole(task) and is_whole(other) and self.wholes[task.key] == self.wholes[other.key]
 
     def whole_file(self, key: str) -> str:
         return f"{self.out}/{whole_name(key)}"
 
     def notes(self) -> Iterator[str]:
-        """Notes on the cuts, on scales, and on inputs whose clocks or scales differ."""
+        """Notes on the cuts, on what can overflow, and on inputs whose clocks differ, or whose scales do where these matter."""
         if self.moved:
             grid = f"to the grid of every {self.domain.period} ticks, or " if self.domain.period > 1 else ""
             yield f"cuts that were moved {grid}into the domain: {self.moved}"
         if self.fewer:
             yield f"cuts that had no place of their own in the domain, so that there are fewer parts: {self.fewer}"
-        first: dict[str, list[str]] = next(iter(self.files.values()), {})
-        scales = {name: notes.scale for name, notes in known_notes({name: paths[0] for name, paths in first.items()}, []).items()}
-        if any(scale != 1 for scale in scales.values()):
-            shown = ", ".join(f"{name} times {scale}" for name, scale in scales.items() if scale != 1)
-            yield f"note: the query and its outputs are in whole numbers ({shown}); `tilt-data by` is in units"
+        for overflow in self.overflows():
+            yield f"note: {overflow}"
         found: dict[str, list[str]] = {}
         for key, its in self.files.items():
-            clash = clashes_of({name: paths[0] for name, paths in its.items()})
+            clash = clashes_of({name: paths[0] for name, paths in its.items()}, self.units.is_whole, self.read)
             if clash:
                 found.setdefault(clash, []).append(urllib.parse.unquote(key))
         for clash, keys in found.items():
@@ -404,7 +456,7 @@ class Run:
             while waiting or self.engine.begun:
                 while waiting and self.engine.has_room():
                     some = [waiting.popleft()]
-                    while waiting and is_whole(some[0]) and is_whole(waiting[0]) and len(some) < TOGETHER:
+                    while waiting and self.plan.fit(some[0], waiting[0]) and len(some) < TOGETHER:
                         some.append(waiting.popleft())
                     self.begin(*some)
                 if self.engine.begun:
@@ -469,6 +521,7 @@ def scale(
     workers: int | None = None,
     part_rows: int = PART_ROWS,
     retries: int = 3,
+    whole: bool = False,
     progress: bool = False,
 ) -> Scaled:
     """Runs a query over many files, several parts at a time, as `tilt-data scale` does with the same options. The files of an input are a
@@ -482,7 +535,7 @@ def scale(
     start_seconds = time.monotonic() - begun if scheduler is not None else 0.0
     listed = {name: [files] if isinstance(files, (str, os.PathLike)) else files for name, files in inputs.items()}
     named = {name: [os.fspath(one) for one in files] for name, files in listed.items()}
-    plan = Plan(query if isinstance(query, Query) else Query(query), named, os.fspath(out))
+    plan = Plan(query if isinstance(query, Query) else Query(query), named, os.fspath(out), whole)
     with locked(plan.out, "scale"), contextlib.ExitStack() as stack:
         # What killed processes left: only this call writes to its folder.
         parts = os.path.join(plan.out, "parts")
@@ -498,7 +551,7 @@ def scale(
 
 def main(words: argparse.Namespace) -> int:
     engine.prepare(words)
-    options: Any = {name: getattr(words, name) for name in ("scheduler", "workers", "part_rows", "retries")}
+    options: Any = {name: getattr(words, name) for name in ("scheduler", "workers", "part_rows", "retries", "whole")}
     for line in scale(pathlib.Path(words.query), bound(words.binds), words.out, progress=True, **options).told():
         note(line)
     return 0

@@ -18,6 +18,7 @@ from .files import HEADER_LINE, Together, copy, scratch
 from .parts import Part
 from .program import REFUSALS, Processes, program
 from .ranges import NotPlain, Range, Series, Stamp, check_stamp, is_all, opened, plain_of, range_of, stamp_of
+from .units import put, write_in_units
 from .why import Refusal, refusal_of
 
 T = TypeVar("T")
@@ -49,13 +50,16 @@ class Task(NamedTuple):
 
 
 class Batch(NamedTuple):
-    """Parts that are made by one call of a worker, one after another: the query over their stretch, which is the same for all; a digest of
-    the program that is to be called; and the folder of the plain copies."""
+    """Parts that are made by one call of a worker, one after another: the query over whole numbers and over their stretch, which is the
+    same for all; a digest of the program that is to be called; the folder of the plain copies; and the decimals that the output has, and
+    those that are shown of it."""
 
     query: str
     program: str
     plain: str
     tasks: tuple[Task, ...]
+    decimals: int
+    shown: int
 
 
 @dataclasses.dataclass(frozen=True)
@@ -123,13 +127,17 @@ def made_together(batch: Batch, processes: Processes) -> Made:
     check_program(batch.program)
     made: list[Made] = []
     with scratch() as folder, Together() as together:
-        query = os.path.join(folder, "query.tilt")
-        with open(query, "w", encoding="utf-8", newline="") as file:
-            file.write(batch.query)
+        query, printed = put(batch.query.encode(), folder), os.path.join(folder, "printed.csv")
         try:
             for task in batch.tasks:
                 out = together.begin(task.beside, task.file)
-                made.append(run(processes, task, query, batch.plain, out))
+                if not batch.shown:
+                    made.append(run(processes, task, query, batch.plain, out))
+                    continue
+                with open(printed, "wb") as whole, open(out, "w", encoding="ascii", newline="", closefd=False) as file:
+                    part = run(processes, task, query, batch.plain, whole.fileno())
+                    write_in_units(printed, file, batch.decimals, batch.shown, processes.check)
+                made.append(part)
         except (Refused, OSError):
             if not made:
                 raise

@@ -9,20 +9,22 @@ import contextlib
 import dataclasses
 import math
 import os
-from typing import Callable, Iterable, Mapping, NamedTuple, Sequence
+from typing import IO, Callable, Iterable, Iterator, Mapping, NamedTuple, Sequence
 
 from . import program
 from .errors import Refused, TiltError
-from .files import Row, Stale, notes_of, rows_in
+from .files import Row, Stale, notes_of, rows_in, scratch
 from .forms import walk
 from .grammar import inputs_in, statements_of
 from .scales import decimal_text, factors
 from .sessions import check
 from .tokens import DECIMAL, without_points
-from .why import text_of
+from .why import Reads, text_of
 
 # The largest scale that the program takes.
 LARGEST_SCALE = 2**63 - 1
+# How many bytes of an output are brought to units at a time, about.
+PIECE = 1 << 20
 CURE = "take a constant off its inputs first, as `let d = x - 100;`, shorten its windows, or give a smaller scale"
 
 
@@ -71,10 +73,7 @@ class Checked:
 
     def put(self, folder: str) -> str:
         """Writes the query to a folder: its path."""
-        path = os.path.join(folder, "query.tilt")
-        with open(path, "w", encoding="utf-8", errors="surrogateescape", newline="") as file:
-            file.write(self.query)
-        return path
+        return put(self.query.encode(errors="surrogateescape"), folder)
 
     @staticmethod
     def of(report: str) -> Checked:
@@ -117,17 +116,84 @@ def checked_by(path: str, options: list[str], name: str | None = None) -> Checke
     return Checked.of(called.printed.decode())
 
 
+class Units:
+    """A query in units, and what it is over whole numbers at the scales of its inputs: it is translated once for equal scales. With
+    `is_whole` it is over whole numbers itself. Errors name it as the caller knows it."""
+
+    def __init__(self, text: bytes, name: str, is_whole: bool = False, read: Reads = notes_of) -> None:
+        self.text, self.name, self.is_whole, self.read = text, name, is_whole, read
+        self.names = inputs_in(text)
+        self.found: dict[tuple[tuple[str, int], ...], Checked | None] = {}
+
+    def scales(self, files: Mapping[str, str]) -> dict[str, int]:
+        """The scale of each input that has a file."""
+        return {name: 1 for name in self.names if name in files} if self.is_whole else scales_of_files(self.names, files, self.read)
+
+    def whole(self, scales: Mapping[str, int]) -> Checked | None:
+        """The query over whole numbers, if its inputs have these scales; None if it is the query as it is."""
+        given = tuple(scales.items())
+        if given not in self.found:
+            is_same = self.is_whole or not is_in_units(self.text, scales.values())
+            self.found[given] = None if is_same else self.translated(scales)
+        return self.found[given]
+
+    def translated(self, scales: Mapping[str, int]) -> Checked:
+        with scratch() as folder:
+            return checked(put(self.text, folder), scales, name=self.name)
+
+    def overflow(self, scales: Mapping[str, int], known: Mapping[str, Known]) -> Overflow | None:
+        """The first overflow, if its inputs have these scales and this is known of them."""
+        alone = {name: Known(one.least, one.greatest) for name, one in known.items()}
+        with scratch() as folder:
+            return overflow_of(put(self.text, folder), scales, alone, lambda: known)
+
+    @property
+    def decimals(self) -> int:
+        """How many decimals the output has at most, at the scales so far. So many are shown of each key."""
+        return max((whole.decimals for whole in self.found.values() if whole is not None), default=0)
+
+
+def put(text: bytes, folder: str) -> str:
+    """Writes a query to a folder: its path."""
+    path = os.path.join(folder, "query.tilt")
+    with open(path, "wb") as file:
+        file.write(text)
+    return path
+
+
+def in_units(lines: Iterable[str], decimals: int, shown: int) -> Iterator[str]:
+    """The lines of rows whose whole numbers have so many decimals, with so many of them after the point, or more."""
+    point, end = -1 - decimals, "0" * (shown - decimals) + "\n"
+    for line in lines if shown else ():
+        # The point has a digit before it, unless the number is too short.
+        if line[point - 1 : -1].isdigit():
+            yield f"{line[:point]}.{line[point:-1]}{end}"
+        else:
+            front, _, value = line.rpartition(",")
+            yield f"{front},{decimal_text(int(value), 10**decimals)}{end}"
+    yield from () if shown else lines
+
+
+def write_in_units(source: str, out: IO[str], decimals: int, shown: int, check: Callable[[], None] = lambda: None) -> None:
+    """Writes an output that is in a file, with its values in units. `check` is called for each piece, and can raise an exception."""
+    with open(source, encoding="ascii") as file:
+        out.write(file.readline())
+        while lines := file.readlines(PIECE):
+            check()
+            out.writelines(in_units(lines, decimals, shown))
+
+
 def is_in_units(text: bytes, scales: Iterable[int]) -> bool:
     """Whether a query means something else in units: it has a decimal, or an input has a scale other than 1."""
     return DECIMAL.search(text) is not None or any(scale != 1 for scale in scales)
 
 
-def scales_of_files(names: Iterable[str], files: Mapping[str, str]) -> dict[str, int]:
+def scales_of_files(names: Iterable[str], files: Mapping[str, str], read: Reads = notes_of) -> dict[str, int]:
     """The scale of each input that has a file: that of the notes beside it, or 1. Notes that don't describe their file are rejected."""
     scales: dict[str, int] = {}
     for name in names:
         try:
-            notes = notes_of(files[name]) if name in files else None
+            notes = read(files[name]) if name in files else None
         except Stale:
             raise
         except Refused:
@@ -152,12 +218,12 @@ def overflow_of(
     return None
 
 
-def noted(files: Mapping[str, str]) -> dict[str, Known]:
+def noted(files: Mapping[str, str], read: Reads = notes_of) -> dict[str, Known]:
     """The numbers of inputs with these series, as far as the notes beside these have them."""
     known: dict[str, Known] = {}
     for name, file in files.items():
         with contextlib.suppress(Refused):
-            notes = notes_of(file)
+            notes = read(file)
             if notes is not None and notes.smallest is not None and notes.largest is not None:
                 known[name] = Known(notes.smallest, notes.largest)
     return known

@@ -10,7 +10,7 @@ import dataclasses
 import difflib
 import os
 import re
-from typing import Iterable, Iterator, Mapping, TypeVar
+from typing import Callable, Iterable, Iterator, Mapping, TypeVar
 
 from .errors import Refused, printable
 from .files import Notes, Stale, notes_of
@@ -23,6 +23,8 @@ ROW = re.compile(r" in row (\d+)$")
 # A line about the units of a query: its number, and a byte, a statement or a scale.
 UNIT_LINE = re.compile(r"(11[0-9]) (?:.* at|statement|output scale) ([0-9]+)(?:: .*)?")
 Fact = TypeVar("Fact")
+# What reads the notes of a series, such as `notes_of`.
+Reads = Callable[[str], "Notes | None"]
 CURES = {
     10: "the first line has to be start,end,value; a CSV of readings becomes a series by `tilt-data series`",
     11: "a row has three fields: start,end,value",
@@ -194,11 +196,11 @@ def refusal_of(told: str, words: list[str]) -> Refusal | None:
     return fault_refusal(line[len("4 read fault: ") :]) if line.startswith("4 read fault: ") else None
 
 
-def clashes_of(files: Mapping[str, str], is_whole: bool = True) -> str | None:
+def clashes_of(files: Mapping[str, str], is_whole: bool = True, read: Reads = notes_of) -> str | None:
     """What the notes of the files of inputs differ in, in one line, after what is said of notes that don't describe their file; None if
     they agree. Files without notes are left out."""
     texts: list[str] = []
-    clash = clashes(known_notes(files, texts), is_whole)
+    clash = clashes(known_notes(files, texts, read), is_whole)
     return "; ".join([*texts, clash] if clash is not None else texts) or None
 
 
@@ -219,12 +221,12 @@ def clashes(known: Mapping[str, Notes], is_whole: bool = True) -> str | None:
     return "; ".join(texts) or None
 
 
-def known_notes(files: Mapping[str, str], stale: list[str]) -> dict[str, Notes]:
+def known_notes(files: Mapping[str, str], stale: list[str], read: Reads = notes_of) -> dict[str, Notes]:
     """The notes of the files that have some; what is said of those that don't describe their file is added to `stale`."""
     known: dict[str, Notes] = {}
     for name, file in files.items():
         try:
-            notes = notes_of(file)
+            notes = read(file)
         except Stale as error:
             stale.append(str(error))
         except Refused:
