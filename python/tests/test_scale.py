@@ -877,7 +877,11 @@ def test_the_command_on_this_machine(here):
     assert (done.returncode, done.stdout) == (0, ""), done.stderr
     assert {path.stem.replace("%2F", "/"): path.read_text() for path in pathlib.Path("out").glob("*.csv")} == wanted
     lines = done.stderr.splitlines()
-    assert " parts; " in lines[0] and "of the workers' time: the program " in lines[1] and lines[2].endswith("out/k 1.csv")
+    assert (
+        " parts; " in lines[0]
+        and re.match(r"tilt-data: the program took \d+% of the workers' time; ", lines[1])
+        and lines[2].endswith("out/k 1.csv")
+    )
     assert len(lines) == 4
 
 
@@ -1202,6 +1206,55 @@ def test_parts_have_as_many_rows_as_they_read_beside_their_own(here):
         found = scale(query, {"x": "x.csv"}, f"out{back}{grid}", workers=2, part_rows=1000)
         assert found.parts == count and found.bytes < 2.01 * size and "times" not in " ".join(found.notes)
         assert outputs(found)["output"] == run_program(str(PROGRAM), query, "x=x.csv")
+
+
+def test_there_are_as_many_parts_as_the_rows_fill(here):
+    """As many parts as workers, or a multiple, would else leave one part more, for which all but one wait. Rows get longer with their ticks."""
+    pathlib.Path("x.csv").write_text(text_of([(at, at + 1, at % 400) for at in range(300000)]))
+    plan = planned("input x; emit sum(x[t-60:t]) over (0, 300000] every 60;", x="x.csv")
+    assert [len(plan.cut("", rows)) for rows in (3000, 37500, 75000, 290000, 300000)] == [100, 8, 4, 2, 1]
+
+
+@pytest.mark.parametrize("size", [tasks.PIPE, 1 << 16])
+def test_a_full_pipe_is_left_alone_for_a_while(tmp_path, monkeypatch, size):
+    """So the system copies many bytes at a time, and not those alone of which the reader has made room."""
+    rows = text_of([(at, at + 1, 5) for at in range(300000)])
+    (tmp_path / "x.csv").write_text(rows)
+    its, read, sent, sendfile = known(tmp_path / "x.csv"), bytearray(), list[int](), os.sendfile
+    monkeypatch.setattr(tasks, "PIPE", size)
+    monkeypatch.setattr(os, "sendfile", lambda *words: sent.append(sendfile(*words)) or sent[-1])
+    with tasks.Feeds() as feeds, open(feeds.begin([ranges.Range(its, its.begin, its.end)]), "rb", buffering=0) as file:
+        while some := file.read(1 << 13):
+            read += some
+    assert read.decode() == rows and sum(sent) == its.end - its.begin and len(sent) < its.end >> 14
+
+
+def test_a_part_goes_to_the_disk_while_the_next_one_runs(here, monkeypatch):
+    """So a worker doesn't wait for the disk; but no more programs run at a time than there are workers."""
+    pathlib.Path("x.csv").write_text(text_of([(at, at + 1, at) for at in range(6000)]))
+    call, commit, next_one, running, most = Processes.call, tasks.Together.commit, threading.Event(), set[int](), list[int]()
+
+    def called(processes: Processes, *words: Any, **more: Any) -> Called:
+        next_one.set()
+        running.add(threading.get_ident())
+        most.append(len(running))
+        done = call(processes, *words, **more)
+        running.discard(threading.get_ident())
+        return done
+
+    def committed(together: tasks.Together) -> None:
+        """The first one is kept until another part runs."""
+        if len(most) == 1:
+            next_one.clear()
+            assert next_one.wait(60)
+        commit(together)
+
+    query = Query("input x; emit x over (0, 6000];")
+    assert query.explain().back == 0
+    monkeypatch.setattr(Processes, "call", called)
+    monkeypatch.setattr(tasks.Together, "commit", committed)
+    found = scale(query, {"x": "x.csv"}, "out", workers=1, part_rows=1000)
+    assert found.made == len(most) == 6 and set(most) == {1}
 
 
 def test_two_calls_never_work_in_one_folder(here):

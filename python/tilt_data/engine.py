@@ -57,8 +57,8 @@ def opened(scheduler: str | None, workers: int | None, retries: int) -> Iterator
 
 
 class Engine:
-    """Calls on threads of this process. Each is started again if its worker is lost or it ends by an error, up to `retries` times; after
-    that the error is raised as a Refused."""
+    """Calls on threads of this process, of which so many as there are workers run the program at a time. Each is started again if its
+    worker is lost or it ends by an error, up to `retries` times; after that the error is raised as a Refused."""
 
     def __init__(self, workers: int, retries: int) -> None:
         self.most, self.retries = workers, retries
@@ -66,8 +66,9 @@ class Engine:
         # Those of all calls, and those that it took to start and to end the engine itself.
         self.seconds = self.start_seconds = self.end_seconds = 0.0
         self.failures: collections.Counter[str] = collections.Counter()
-        self.pool = concurrent.futures.ThreadPoolExecutor(max(1, workers))
-        self.processes = Processes()
+        # While the programs run, as many calls more read and write files.
+        self.pool = concurrent.futures.ThreadPoolExecutor(max(1, 2 * workers))
+        self.processes = Processes(max(1, workers))
 
     def threads(self) -> int:
         """How many calls can run at a time now."""

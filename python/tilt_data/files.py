@@ -19,6 +19,7 @@ import signal
 import stat
 import sys
 import tempfile
+import time
 import urllib.parse
 from typing import IO, Any, Callable, Iterable, Iterator
 
@@ -35,6 +36,8 @@ PLACED = ".tilt-data-new"
 BESIDE = ".tilt-data"
 # The longest name, in bytes, that a file beside it takes over whole: what is added has less than the other 55 of 255.
 LONGEST_NAME = 200
+# How many bytes of a file are copied at once.
+AT_ONCE = 1 << 26
 # How many files are brought to the disk at the same time, so that the file system joins their commits.
 SYNCS = 16
 # The JSON file of a series that is being written.
@@ -700,15 +703,19 @@ def check_replaceable(path: str, cure: str) -> None:
         raise Refused(f"{path}: it is there without a JSON file beside it, so `tilt-data` didn't write it; {cure}")
 
 
-def copy(source: int, out: int, begin: int, end: int, check: Callable[[], None] = lambda: None, most: int = 1 << 26) -> None:
+def copy(source: int, out: int, begin: int, end: int, check: Callable[[], None] = lambda: None, pause: float = 0.0) -> None:
     """Copies bytes of a file to where another is written, or to a pipe; the system copies them, many at a time. `check` is called for
-    each piece, and can raise an exception to stop. A file that ends before `end` gives fewer."""
+    each piece, and can raise an exception to stop. A pipe that is full is left alone for a pause, in seconds: otherwise it would be filled
+    again after each read of its reader. A file that ends before `end` gives fewer."""
     while begin < end:
         check()
-        count = os.sendfile(out, source, begin, min(most, end - begin))
+        wanted = min(AT_ONCE, end - begin)
+        count = os.sendfile(out, source, begin, wanted)
         if not count:
             break
         begin += count
+        if count < wanted and pause:
+            time.sleep(pause)
 
 
 def scratch() -> tempfile.TemporaryDirectory[str]:

@@ -1,6 +1,7 @@
 """Finds the program `tilt`, calls it, and reads what it says of a query."""
 from __future__ import annotations
 
+import contextlib
 import dataclasses
 import functools
 import os
@@ -69,10 +70,14 @@ class Cancelled(Exception):
 
 
 class Processes:
-    """The calls of the program that are under way, on one thread or several, so that they can all be stopped."""
+    """The calls of the program that are under way, on one thread or several, so that they can all be stopped. `slots` is entered by callers
+    that run no more than so many at a time."""
 
-    def __init__(self) -> None:
+    def __init__(self, slots: int | None = None) -> None:
         self.lock = threading.Lock()
+        self.slots: contextlib.AbstractContextManager[Any] = contextlib.nullcontext()
+        if slots is not None:
+            self.slots = threading.BoundedSemaphore(slots)
         # As bytes in a dictionary of its own it needn't be encoded for each run.
         self.environment = dict(os.environb)
         self.running: set[int] = set()

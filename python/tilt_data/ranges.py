@@ -300,8 +300,10 @@ def pieces_of(part: Range, rows_of_part: int, count: int) -> list[Piece]:
         for (begin, first), (end, last) in zip(edges, edges[1:]):
             begin, end = max(begin, part.begin), min(end, part.end)
             if begin < end:
-                data = os.pread(handle, min(EDGE, end - begin), begin)
-                lines = data[: data.rfind(b"\n") + 1] or data
+                # Of a long piece in its middle: at its begin the rows can be shorter, as those of the first ticks are.
+                at = begin if end - begin <= 2 * EDGE else (begin + end) // 2
+                data = os.pread(handle, min(EDGE, end - at), at)
+                lines = data[data.find(b"\n") + 1 if at > begin else 0 : data.rfind(b"\n") + 1] or data
                 found.append(Piece(first, last, max(1, lines.count(b"\n")) * (end - begin) / len(lines)))
     return found
 

@@ -40,8 +40,8 @@ ALONE = "output"
 PART_ROWS = 1_000_000
 # What changes when the parts of earlier versions aren't to be taken.
 FORMAT = 3
-# In how many pieces the rows of a part are looked at to find where to cut, and how much of a part their number may be wrong.
-PIECES, SLACK = 16, 0.02
+# In how many pieces the rows of a part are looked at to find where to cut, and how much of a part, and of all, their number may be wrong.
+PIECES, SLACK, WRONG = 16, 0.02, 0.002
 # How many small keys share a task, and from how many keys on; how many bytes the files of such a key have at most.
 TOGETHER, MANY, SMALL = 32, 64, 1 << 14
 # From how many keys on a key has one part, if it has at most so many times the rows of a part.
@@ -96,8 +96,7 @@ class Scaled:
             # How the workers spent the time of the call.
             time = self.workers * run
             program, files = self.program_seconds / time, (self.task_seconds - self.program_seconds) / time
-            rest = max(0, 1 - program - files)
-            yield f"of the workers' time: the program {program:.0%}, reading and writing {files:.0%}, waiting {rest:.0%}"
+            yield f"the program took {program:.0%} of the workers' time; reading and writing, beside it or between, {files:.0%}"
         if self.again:
             yield f"tasks that failed and were started again: {self.again}"
         yield from list(self.outputs.values())[:most]
@@ -254,7 +253,7 @@ class Plan:
             rows = sum(piece.rows for some in pieces.values() for piece in some)
             beside = sum(self.rows_beside(name, some) for name, some in pieces.items())
             if rows > most:
-                count = max(1, min(math.ceil(rows / part_rows - SLACK), int(rows / max(beside, 1) + SLACK)))
+                count = max(1, min(math.ceil(rows * (1 - WRONG) / part_rows - SLACK), int(rows / max(beside, 1) + SLACK)))
                 ticks = ranges.ticks_by_rows([piece for some in pieces.values() for piece in some], count)
         self.bytes += sum(one.end - one.begin for one in its)
         return ticks, count

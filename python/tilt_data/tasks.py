@@ -22,8 +22,8 @@ from .units import put, write_in_units
 from .why import Refusal, refusal_of
 
 T = TypeVar("T")
-# How many bytes a pipe to the program holds.
-PIPE = 1 << 20
+# How many bytes a pipe to the program holds if this user may have one of so many, and how many the program reads in a second, at most.
+PIPE, FASTEST = 1 << 20, 1 << 29
 # On a cluster, a worker's tasks run until they end or the worker is killed.
 UNSTOPPED = Processes()
 
@@ -64,10 +64,12 @@ class Batch(NamedTuple):
 
 @dataclasses.dataclass(frozen=True)
 class Made:
-    """How a task went: its seconds and those of the program in it, and how many bytes of series the program got. If something was rejected:
-    the line, the status and the place. Of a batch what was made of each part, up to the first that failed."""
+    """How a task went: its seconds, without those in which others had all slots; these; those of the program in it; and how many bytes of
+    series the program got. If something was rejected: the line, the status and the place. Of a batch what was made of each part, up to the
+    first that failed."""
 
     seconds: float = dataclasses.field(default=0.0, compare=False)
+    waited_seconds: float = dataclasses.field(default=0.0, compare=False)
     program_seconds: float = 0.0
     bytes: int = 0
     line: str = ""
@@ -106,7 +108,7 @@ def task(make: Callable[[T, Processes], Made]) -> Callable[..., Made]:
             return Made(line=rejected.line, status=rejected.status, place=rejected.place)
         except Refused as refused:
             return Made(line=str(refused), status=1)
-        return dataclasses.replace(made, seconds=time.perf_counter() - begun)
+        return dataclasses.replace(made, seconds=time.perf_counter() - begun - made.waited_seconds)
 
     return carried_out
 
@@ -123,10 +125,22 @@ def make_parts(batch: Batch, processes: Processes) -> Made:
 
 
 def made_together(batch: Batch, processes: Processes) -> Made:
-    """Runs the program for each part. All outputs are brought to the disk together, and then take their names."""
+    """Runs the program for each part, in one of the slots. All outputs are brought to the disk together, and then take their names, while
+    the slot is another's."""
     check_program(batch.program)
+    ready = time.perf_counter()
+    with Together() as together:
+        with processes.slots:
+            waited = time.perf_counter() - ready
+            made = run_all(batch, processes, together)
+        together.commit()
+    return Made(waited_seconds=waited, parts=tuple(made))
+
+
+def run_all(batch: Batch, processes: Processes, together: Together) -> list[Made]:
+    """Runs the program for each part, up to the first that fails. If that is the first of all, it fails too."""
     made: list[Made] = []
-    with scratch() as folder, Together() as together:
+    with scratch() as folder:
         query, printed = put(batch.query.encode(), folder), os.path.join(folder, "printed.csv")
         try:
             for task in batch.tasks:
@@ -142,8 +156,7 @@ def made_together(batch: Batch, processes: Processes) -> Made:
             if not made:
                 raise
             together.keep(len(made))
-        together.commit()
-    return Made(parts=tuple(made))
+    return made
 
 
 def check_program(digest: str, command: str = "tilt") -> None:
@@ -175,7 +188,7 @@ def run(processes: Processes, task: Task, query: str, plain: str, out: int) -> M
         raise ChildProcessError(line or f"the program exited with status {called.status}")
     if feeds.error is not None:
         raise feeds.error
-    return Made(0.0, seconds, sum(one.end - one.begin for its in ranges.values() for one in its))
+    return Made(0.0, 0.0, seconds, sum(one.end - one.begin for its in ranges.values() for one in its))
 
 
 class Feeds:
@@ -195,13 +208,15 @@ class Feeds:
         self.readers.append(reader)
         with contextlib.suppress(OSError):
             fcntl.fcntl(writer, fcntl.F_SETPIPE_SZ, PIPE)
-        self.threads.append(threading.Thread(target=self.feed, args=(ranges, writer)))
+        # In this time the program can't read all that the pipe holds.
+        pause = fcntl.fcntl(writer, fcntl.F_GETPIPE_SZ) / FASTEST
+        self.threads.append(threading.Thread(target=self.feed, args=(ranges, writer, pause)))
         self.threads[-1].start()
         return f"/dev/fd/{reader}"
 
-    def feed(self, ranges: list[Range], writer: int) -> None:
+    def feed(self, ranges: list[Range], writer: int, pause: float) -> None:
         try:
-            write_rows(ranges, writer)
+            write_rows(ranges, writer, pause)
         except (OSError, Refused) as error:
             self.error = error
         finally:
@@ -215,12 +230,12 @@ class Feeds:
             thread.join()
 
 
-def write_rows(ranges: list[Range], out: int) -> None:
-    """Writes a series of these rows. The system copies them."""
+def write_rows(ranges: list[Range], out: int, pause: float = 0.0) -> None:
+    """Writes a series of these rows. The system copies them; a pipe that is full is left alone for a pause."""
     os.write(out, HEADER_LINE)
     for series, begin, end in ranges:
         with opened(series.file, series.path) as source:
-            copy(source, out, begin, end)
+            copy(source, out, begin, end, pause=pause)
             if os.pread(source, 1, end - 1) != b"\n":
                 os.write(out, b"\n")
 
