@@ -5,6 +5,7 @@ import fcntl
 import os
 import pathlib
 import random
+import re
 import signal
 import subprocess
 import sys
@@ -76,9 +77,8 @@ def test_workers_that_are_killed(either, live):
     environment = {**os.environ, "PYTHONPATH": str(PYTHON)}
     words = [*COMMAND, "feeds", "q", "feeds/{key}.csv", "--out", "out", *either.words, "--retries", "9", "--", "--every", "100"]
     # A shell that runs the tests in the background has told its children to ignore an interrupt.
-    command = subprocess.Popen(
-        words, env=environment, stderr=subprocess.PIPE, preexec_fn=lambda: signal.signal(signal.SIGINT, signal.SIG_DFL)
-    )
+    with open("told", "wb") as file:
+        command = subprocess.Popen(words, env=environment, stderr=file, preexec_fn=lambda: signal.signal(signal.SIGINT, signal.SIG_DFL))
     draws, killed = random.Random(7), 0
     try:
         for part in range(1, 41):
@@ -96,13 +96,17 @@ def test_workers_that_are_killed(either, live):
                 killed += 1
             time.sleep(0.03)
         assert waited(lambda: all(output(key) == wanted[key] for key in whole), command), command.poll()
-        # The workers go on with what comes later.
+        # The workers go on with what comes later. Lines that are bad can be lost with a worker, but not this one.
         assert killed == 3 and command.poll() is None
+        with open("feeds/k0.csv", "ab") as file:
+            file.write(b"x,0,1,7\n")
+        told = pathlib.Path("told")
+        assert waited(lambda: re.search(r": k0: tilt: 82 line \d+: late\n", told.read_text()), command), told.read_text()
         command.send_signal(signal.SIGINT)
-        told = command.communicate(timeout=120)[1].decode()
+        command.wait(timeout=120)
     finally:
         command.kill()
-    assert command.returncode == 130 and "late" in told and "isn't served" not in told, told
+    assert command.returncode == 130 and "isn't served" not in told.read_text(), told.read_text()
     assert {key: output(key) for key in whole} == wanted
 
 

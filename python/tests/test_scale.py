@@ -591,18 +591,22 @@ def small_query(draw: Small) -> str:
             return text
 
 
-def compare(seed: int, folder: pathlib.Path) -> set[str]:
-    """Cuts a random query over random rows at random ticks, and holds it to one run; what there was to see."""
+def laid_out(seed: int, folder: pathlib.Path) -> tuple[Small, Query, dict[str, str]]:
+    """A random query, and files with random rows for its inputs."""
     draw = Small(seed)
     draws = draw.draws
     folder.mkdir()
-    text = small_query(draw)
-    query = Query(text)
-    names = query.inputs
-    for name in names:
+    query, files = Query(small_query(draw)), {}
+    for name in query.inputs:
         rows = series(draws.randrange(10**6), 150, draws.choice([2, 5, 30]), draws.choice([1, 2, 50]), -20)
         (folder / f"{name}.csv").write_text(text_of(rows))
-    files = {name: str(folder / f"{name}.csv") for name in names}
+        files[name] = str(folder / f"{name}.csv")
+    return draw, query, files
+
+
+def compare(folder: pathlib.Path, draw: Small, query: Query, files: dict[str, str]) -> set[str]:
+    """Cuts a random query over random rows at random ticks, and holds it to one run; what there was to see."""
+    draws, text = draw.draws, query.text
     wanted = run_program(str(PROGRAM), text, *(f"{name}={file}" for name, file in files.items()), folder=str(folder))
     plan = planned(query, out=str(folder / "out"), **files)
     domain = plan.domain
@@ -613,7 +617,7 @@ def compare(seed: int, folder: pathlib.Path) -> set[str]:
     # One that stands where a snapshot of the whole ends, so that marks at joints are met.
     lines = [line.split(",") for line in wanted.splitlines()[1:]]
     ticks = sorted({*ticks, int(draws.choice(lines)[1])}) if lines else ticks
-    assert made(plan, ticks) == wanted, (seed, text, ticks)
+    assert made(plan, ticks) == wanted, (folder.name, text, ticks)
     return seen(plan, text, lines, set(plan.domain.cuts(ticks)[0]))
 
 
@@ -636,7 +640,9 @@ def seen(plan: Plan, text: str, rows: list[list[str]], cuts: set[int]) -> set[st
 
 def test_500_random_queries(here):
     with concurrent.futures.ThreadPoolExecutor(2) as pool:
-        found = list(pool.map(lambda seed: compare(seed, here / str(seed)), range(500)))
+        # All files are there before the first is looked at, so that nobody waits until it is settled.
+        its = list(pool.map(lambda seed: (here / str(seed), *laid_out(seed, here / str(seed))), range(500)))
+        found = list(pool.map(lambda one: compare(*one), its))
     counts = {what: sum(what in some for some in found) for what in sorted(set().union(*found))}
     assert set(counts) == {
         "cut",
@@ -985,7 +991,8 @@ def test_a_call_over_small_keys_that_is_killed_goes_on(here, monkeypatch, after)
     pathlib.Path("q").write_text(query)
     words = [*COMMAND[:3], "q", "x=k{key}.csv", "--out", "out", "--workers", "1"]
     begun = subprocess.Popen(words, stdout=subprocess.PIPE, stderr=subprocess.PIPE, start_new_session=True)
-    assert waited(lambda: os.path.exists("hangs"), begun)
+    # What was made before goes to the disk while the next ones are made.
+    assert waited(lambda: os.path.exists("hangs") and len(list(pathlib.Path("out").glob("*.csv"))) == after // 32 * 32, begun)
     os.killpg(begun.pid, signal.SIGKILL)
     begun.communicate()
     there = {path.stem: path.read_text() for path in pathlib.Path("out").glob("*.csv")}
@@ -1034,7 +1041,7 @@ class Killer(threading.Thread):
 
 def test_workers_that_are_killed_at_random(cluster, here):
     wanted = fleet(here, keys=4)
-    cluster.before('[ "$1" = run ] && sleep 0.2')
+    cluster.before('[ "$1" = run ] && sleep 0.1')
     killer = Killer(cluster, 3)
     killer.start()
     try:
@@ -1513,15 +1520,18 @@ def test_a_cluster_with_certificates(with_tls, here):
     environment = {**os.environ, "TILT": str(with_tls.program)}
     assert with_tls.address.startswith("tls://127.0.0.1:")
 
-    def call(address: str, **more: str) -> subprocess.CompletedProcess[str]:
-        words = [*COMMAND[:3], "q", "x=x.csv", "--out", "out", "--scheduler", address]
+    def call(address: str, out: str, **more: str) -> subprocess.CompletedProcess[str]:
+        words = [*COMMAND[:3], "q", "x=x.csv", "--out", out, "--scheduler", address]
         return subprocess.run(words, env={**environment, **more}, capture_output=True, text=True)
 
-    for address in (with_tls.address, with_tls.address.replace("tls:", "tcp:")):
-        done = call(address)
+    addresses = with_tls.address, with_tls.address.replace("tls:", "tcp:")
+    # Each waits for some seconds.
+    with concurrent.futures.ThreadPoolExecutor(2) as pool:
+        calls = list(pool.map(lambda one: call(*one), zip(addresses, ("out", "more"))))
+    for address, done in zip(addresses, calls):
         assert done.returncode == 1 and done.stderr.startswith(f"tilt-data: {address}: no scheduler answers there: "), done.stderr
-    assert not os.path.exists("out/output.csv")
-    done = call(with_tls.address, **with_tls.environment)
+    assert not os.path.exists("out/output.csv") and not os.path.exists("more/output.csv")
+    done = call(with_tls.address, "out", **with_tls.environment)
     assert done.returncode == 0 and pathlib.Path("out/output.csv").read_text() == HEADER + "0,5,7\n", done.stderr
     found = re.search(r"took (\S+) s\n.*: Dask took (\S+) s to start, the parts (\S+) s, and Dask (\S+) s to end\n", done.stderr)
     assert found and abs(float(found[1]) - sum(map(float, found.groups()[1:]))) < 0.25 and float(found[2]) > 0, done.stderr
