@@ -1,0 +1,13 @@
+mod Accepted
+mod Asked
+mod Cells
+mod Decided
+mod Emitted
+mod Large
+mod Near
+mod Nearer
+mod Reach
+mod Sees
+mod Taken
+mod Underscores
+mod Watched
