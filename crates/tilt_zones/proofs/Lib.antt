@@ -1,0 +1,5 @@
+pub mod OrderLemmas
+pub mod OutcomeLemmas
+pub mod PlaceLemmas
+pub mod ShownLemmas
+pub mod TableLemmas

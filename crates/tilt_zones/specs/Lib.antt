@@ -1,0 +1,4 @@
+pub mod Order
+pub mod Place
+pub mod Table
+pub mod Zone
