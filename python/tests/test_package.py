@@ -188,6 +188,8 @@ def test_the_completion_has_the_options_of_tilt_live(root):
         "--lateness",
         "--idle",
         "--ahead",
+        "--keys",
+        "--max-keys",
         "--resume",
         "--save",
         "--folder",

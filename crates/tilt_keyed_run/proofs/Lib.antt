@@ -1,5 +1,6 @@
 pub mod Alongs
 pub mod Apart
+pub mod Indexes
 pub mod More
 pub mod Outcomes
 pub mod Places

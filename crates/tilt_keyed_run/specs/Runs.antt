@@ -1,5 +1,5 @@
 -- Which runs are those of the keys of a feed.
-use Rattle.std.specs.Prelude.{◌≡◌, ℕ, List, [], ◌∷◌, Option, None, Some}
+use Rattle.std.specs.Prelude.{◌≡◌, ℕ, List, [], ◌∷◌, map, Option, None, Some}
 use Rattle.std.specs.Global.{Vec}
 use Rattle.tilt_keyed_line.specs.Feeds.{KeyFeed, KeyedFeed}
 use Rattle.tilt_keyed_run.specs.declared.keyed_run.KeyedRun.{KeyedRun}
@@ -32,3 +32,4 @@ module _ {R Recipe : Type 0} (is : R → Recipe → List (List ℕ) → Type 0) 
   pub record IsKeyedRunOf (run : KeyedRun R) (recipe : Recipe) (feed : KeyedFeed) : Type 0 where
     pub shared_is : first_lines run.shared ≡ feed.shared
     pub keys_are : AreKeysOf run.keys.items recipe feed.keys
+    pub places_are : run.places ≡ map (λ one. one.key) feed.keys

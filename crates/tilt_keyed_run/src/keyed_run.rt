@@ -1,5 +1,5 @@
 // The runs of all keys of a feed.
-ghost use Rattle.std.specs.Prelude.{◌≡◌, ◌&&◌, ◌++◌, ◌∷◌, ℕ, List, [], length, map, nat_le, not, option_map, IfOk, OnErr, OnOk};
+ghost use Rattle.std.specs.Prelude.{◌≡◌, ◌&&◌, ◌++◌, ◌∷◌, ℕ, List, [], length, map, nat_le, not, option_map, None, IfOk, OnErr, OnOk};
 ghost use Rattle.std.specs.List.{position};
 ghost use Rattle.std.specs.Str.{bytes_eq};
 ghost use Rattle.tilt_keyed_line.specs.Address.{address};
@@ -12,6 +12,7 @@ ghost use Rattle.tilt_keyed_run.specs.Runs.{AreKeysOf, IsKeyOf, IsKeyedRunOf, fi
 
 use crate::bad_keyed_line::BadKeyedLine;
 use crate::halt::Halt;
+use crate::key_index::KeyIndex;
 use crate::key_run::KeyRun;
 use crate::one_key::{OneKey, take_line};
 use std::alloc::{AllocError as OutOfMemory, Global};
@@ -26,6 +27,8 @@ pub struct KeyedRun<R> {
     pub(crate) shared: Option<Vec<u8>>,
     // The keys, in the order of their first lines.
     pub(crate) keys: Vec<OneKey<R>>,
+    // The same keys in the same order.
+    pub(crate) places: KeyIndex,
     // Room for what a run writes, and for what is written for a line.
     room: Vec<u8>,
     output: Vec<u8>,
@@ -41,6 +44,7 @@ impl<R: KeyRun + Drop> KeyedRun<R> {
             max_keys,
             shared: None,
             keys: Vec::new(alloc),
+            places: KeyIndex::new(alloc),
             room: Vec::new(alloc),
             output: Vec::new(alloc),
         }
@@ -157,7 +161,7 @@ impl<R: KeyRun + Drop> KeyedRun<R> {
             (IsKeyedRunOf R.is self.new recipe.now feed) }
         ensures max { max_keys_of self.new ≡ max_keys_of self.old }
     {
-        match place_of(&self.keys, key) {
+        match self.places.place_of(key) {
             Some(place) => {
                 let one = &mut self.keys[place];
                 Ok(take_line(alloc, one, line, &mut self.room, &mut self.output)?)
@@ -174,12 +178,15 @@ impl<R: KeyRun + Drop> KeyedRun<R> {
         key: &[u8],
         line: &[u8],
     ) -> Result<Option<R::Bad>, Halt>
+        requires { position (bytes_eq key.now) self.old.places ≡ None }
         ensures is { OnOk result ((one : OneKey R) × (self.new.keys.items ≡ self.old.keys.items ++ one ∷ [])
             × IsKeyOf R.is one recipe.now (record { key = key.now; lines = first_lines self.old.shared ++ line.now ∷ [] })) }
         ensures output { OnOk result (self.new.output.items ≡ self.old.output.items ++ with_key key.now
             (alone (R.first recipe.now) (R.added recipe.now) (first_lines self.old.shared ++ line.now ∷ []))) }
         ensures bad { IfOk result (λ why. why ≡ R.fault recipe.now (first_lines self.old.shared) line.now) }
-        ensures full { FullBy result (nat_le (max_keys_of self.old) (length self.old.keys.items)) (self.new.keys ≡ self.old.keys) }
+        ensures full { FullBy result (nat_le (max_keys_of self.old) (length self.old.keys.items))
+            ((self.new.keys ≡ self.old.keys) × (self.new.places ≡ self.old.places)) }
+        ensures places { OnOk result (self.new.places ≡ self.old.places ++ key.now ∷ []) }
         ensures shared { self.new.shared ≡ self.old.shared }
         ensures max { max_keys_of self.new ≡ max_keys_of self.old }
     {
@@ -187,6 +194,7 @@ impl<R: KeyRun + Drop> KeyedRun<R> {
             return Err(Halt::TooManyKeys);
         }
         let (one, why) = start_key(alloc, recipe, key, &self.shared, line, &mut self.output)?;
+        self.places.push(alloc, key)?;
         push_key(&mut self.keys, one)?;
         Ok(why)
     }
@@ -233,13 +241,6 @@ fn start_key<R: KeyRun + Drop>(
     put_with_key(output, key, &room)?;
     let key = Vec::from_slice(alloc, key)?;
     Ok((OneKey { key, run }, why))
-}
-
-// The place of a key.
-fn place_of<R>(keys: &[OneKey<R>], key: &[u8]) -> Option<usize>
-    ensures { result ≡ position (λ one. bytes_eq one.key.items key.now) keys.now }
-{
-    keys.iter().position(|one| one.key.as_slice() == key)
 }
 
 // Hands a line to all keys, and appends what their runs write. Returns why the line is bad, if it is, for the first run for which it is.

@@ -11,6 +11,7 @@
 
 mod bad_keyed_line;
 mod halt;
+mod key_index;
 mod key_run;
 mod keyed_run;
 mod law;

@@ -1,5 +1,5 @@
 -- The end of a call: what was kept of the run, after the feed was served.
-use Rattle.std.proofs.Common.{◌≡◌, ◌⊎◌, ℕ, List, Option, None, Some, Result, Ok, Err, inl, inr, refl, ap, ◌∙◌, subst}
+use Rattle.std.proofs.Common.{◌≡◌, ◌⊎◌, ℕ, true, List, Option, None, Some, Result, Ok, Err, inl, inr, refl, ap, ◌∙◌, subst}
 use Rattle.std.specs.Prelude.{⊤, ◌-◌, ◌↔◌, length, IfErr}
 use Rattle.tilt_checkpoint.specs.Valid.{IsAccepted}
 use Rattle.tilt_compiler.specs.Accepted.{AcceptedParts}
@@ -13,17 +13,17 @@ use Rattle.tilt_live_app.specs.Done.{HasRun, IsSaving, IsServed, IsToSave, not_k
 use Rattle.tilt_live_app.specs.InFolder.{FolderMeaning, FoldersChange}
 use Rattle.tilt_live_app.specs.Lived.{HasLived, no_command, no_memory}
 use Rattle.tilt_live_app.specs.Resumed.{IsTextAfter, StartsAt, written_before}
-use Rattle.tilt_live_app.specs.Served.{HasEnded, HasServed, Start}
-use Rattle.tilt_live_app.specs.Serving.{IsRunAt}
+use Rattle.tilt_live_run.specs.Feeds.{IsRunAt, live_meaning}
+use Rattle.tilt_serving.specs.Served.{HasEnded, HasServed, Start}
+use Rattle.tilt_serving.specs.Stops.{is_whole}
 use Rattle.tilt_live_app.specs.declared.failure.Failure.{Failure}
 use Rattle.tilt_live_app.specs.declared.failure.Failure.TheVariants.{Halted, Unbegun, Unmade, Unsaved}
-use Rattle.tilt_live_app.specs.declared.failure.Halt.{Halt}
-use Rattle.tilt_live_app.specs.declared.failure.Halt.TheVariants as halt
+use Rattle.tilt_serving.specs.declared.halt.Halt.{Halt}
 use Rattle.tilt_cli.specs.declared.fault.WordsFault.{WordsFault}
 use Rattle.tilt_cli.specs.declared.fault.WordsFault.TheVariants.{OutOfMemory, Usage}
 use Rattle.tilt_live_run.proofs.Leaving.{left-asked}
 use Rattle.tilt_live_run.specs.Left.{state_left}
-use Rattle.tilt_live_run.specs.Reported.{Reported}
+use Rattle.tilt_serving.specs.Reported.{Reported}
 use Rattle.tilt_live_run.specs.declared.live_run.LiveRun.{LiveRun}
 use Rattle.tilt_live_state.specs.Valid.{IsStateOf}
 use Rattle.tilt_outside.specs.Counts.{added_count}
@@ -85,8 +85,8 @@ module _ {K : Type 0} (shelf : ShelfChange) (tells : Type 0) (old new : Transcri
   -- the feed was served until something halted it
   pub run-halted : (why : Halt)
       → ((start : Start) → StartsAt begun.options begun.core begun.from start
-      → HasServed begun.core begun.options start tells old new err_tells err_written err_faults err err_then (Err why))
-      → (why ≡ halt.BadLine → new.held_back ≡ 0) → HasRun shelf tells old new err_tells err_written err_faults command err err_then (Err (Halted why))
+      → HasServed (live_meaning begun.core begun.options) start tells old new err_tells err_written err_faults err err_then (Err why))
+      → (is_whole {T = Unit {0}} (Err why) ≡ true → new.held_back ≡ 0) → HasRun shelf tells old new err_tells err_written err_faults command err err_then (Err (Halted why))
   run-halted why served handed_on = record {
     begun = begun;
     served = λ start at. record { served = served start at; is = tt };
@@ -96,12 +96,13 @@ module _ {K : Type 0} (shelf : ShelfChange) (tells : Type 0) (old new : Transcri
   -- it was served to its end by this run
   module _ (run : LiveRun) (accepted : AcceptedParts) (core_is : accepted.core ≡ begun.core) (handed_on : new.held_back ≡ 0)
       (served : (start : Start) → StartsAt begun.options begun.core begun.from start
-      → HasEnded begun.core begun.options start tells old new err_tells err_written err_faults err err_then (IsRunAt run accepted begun.options) (Ok tt)) where
+      → HasEnded (live_meaning begun.core begun.options) start tells old new err_tells err_written err_faults err err_then
+      (IsRunAt run (record { accepted = accepted; options = begun.options })) (Ok tt)) where
     served-whole : IsServed shelf tells old new err_tells err_written err_faults command (λ _ _. ⊤) (Ok tt) err err_then
     served-whole = record {
       begun = begun;
       served = λ start at. record { served = (served start at).served; is = tt };
-      handed_on = handed_on;
+      handed_on = λ _. handed_on;
     }
 
     -- and nothing is to be saved
@@ -113,7 +114,7 @@ module _ {K : Type 0} (shelf : ShelfChange) (tells : Type 0) (old new : Transcri
         (opens : opening ≡ opened begun.options.form) (written : ℕ)
         (counted : tells → written ≡ added_count (written_before begun.from) (added_count 0 (length new.written) - added_count 0 (length old.written)))
         (name : List ℕ) (save : command.save ≡ Some name) where
-      text-after : (text bytes : List ℕ) → IsTextOfRun run begun.query opening written text → IsRunAt run accepted begun.options bytes
+      text-after : (text bytes : List ℕ) → IsTextOfRun run begun.query opening written text → IsRunAt run (record { accepted = accepted; options = begun.options }) bytes
           → IsTextAfter begun.options begun.core tells old new begun.query begun.from text bytes
       text-after text bytes of at =
           let is = of accepted begun.options bytes at opens in
@@ -138,7 +139,7 @@ module _ {K : Type 0} (shelf : ShelfChange) (tells : Type 0) (old new : Transcri
         served = record {
           begun = begun;
           served = λ start at. record { served = (served start at).served; is = text-after text _ of (served start at).is };
-          handed_on = handed_on;
+          handed_on = λ _. handed_on;
         };
       }
 

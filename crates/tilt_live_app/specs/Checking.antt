@@ -4,7 +4,7 @@ use Rattle.std.specs.Global.{Vec}
 use Rattle.tilt_input_scales.specs.Scales.{ScalesValue}
 use Rattle.tilt_live_app.specs.BeginReport.{line_of_begin, report_of_check, status_of_begin}
 use Rattle.tilt_live_app.specs.Change.{ShelfChange}
-use Rattle.tilt_live_run.specs.Reported.{Reported}
+use Rattle.tilt_serving.specs.Reported.{Reported}
 use Rattle.tilt_outside.specs.Faults.{Rose}
 use Rattle.tilt_outside.specs.Written.{AppendsFront}
 use Rattle.tilt_port.specs.Transcript.{Transcript}

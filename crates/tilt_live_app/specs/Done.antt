@@ -1,22 +1,25 @@
 -- What the program does if no folder is chosen (our own rule).
-use Rattle.std.specs.Prelude.{◌≡◌, ⊤, ℕ, List, [], codes, None, Some, Result, Ok, Err, MatchResult}
+use Rattle.std.specs.Prelude.{◌≡◌, ⊤, ℕ, List, [], codes, None, Some, Result, Ok, Err, true}
 use Rattle.tilt_live_cli.specs.Arguments.{CommandValue, IsLiveCommand}
 use Rattle.tilt_live_app.specs.BeginReport.{BeginReport, begin_report, line_of_begin, status_of_begin}
 use Rattle.tilt_live_app.specs.Begun.{IsBegun, IsUnbegun}
 use Rattle.tilt_live_app.specs.Change.{IsSaved, IsUnsaved, ShelfChange}
 use Rattle.tilt_live_app.specs.Resumed.{IsTextAfter, StartsAt}
-use Rattle.tilt_live_app.specs.Served.{HasEnded, Start}
 use Rattle.tilt_live_app.specs.declared.failure.Failure.{Failure}
 use Rattle.tilt_live_app.specs.declared.failure.Failure.TheVariants.{Halted, Unbegun, Unmade, Unsaved}
-use Rattle.tilt_live_app.specs.declared.failure.Halt.{Halt}
-use Rattle.tilt_live_app.specs.declared.failure.Halt.TheVariants as halt
-use Rattle.tilt_live_run.specs.Reported.{Reported}
+use Rattle.tilt_live_run.specs.Feeds.{live_meaning}
+use Rattle.tilt_serving.specs.Reported.{Reported}
+use Rattle.tilt_serving.specs.Served.{HasEnded, Start}
+use Rattle.tilt_serving.specs.Stops.{is_whole}
+use Rattle.tilt_serving.specs.declared.halt.Halt.{Halt}
+use Rattle.tilt_serving.specs.declared.halt.Halt.TheVariants as halt
 use Rattle.tilt_port.specs.Transcript.{Transcript}
 use Rattle.tilt_report.specs.Report.{line_of, out_of_memory, read_fault, save_fault, write_fault}
 
 -- the status if something halted the feed
 abbrev pub status_of_halt : Halt → ℕ
 status_of_halt halt.BadLine = 1
+status_of_halt halt.TooManyKeys = 1
 status_of_halt halt.ReadFault = 3
 status_of_halt halt.WriteFault = 4
 status_of_halt halt.OutOfMemory = 5
@@ -24,6 +27,7 @@ status_of_halt halt.OutOfMemory = 5
 -- the line that reports it, after the reports of bad lines
 abbrev pub line_of_halt : Halt → List ℕ
 line_of_halt halt.BadLine = []
+line_of_halt halt.TooManyKeys = codes "tilt: 88 too many keys\n"
 line_of_halt halt.ReadFault = line_of (read_fault (codes "-"))
 line_of_halt halt.WriteFault = line_of write_fault
 line_of_halt halt.OutOfMemory = line_of out_of_memory
@@ -41,9 +45,9 @@ module _ {K : Type 0} (shelf : ShelfChange) (tells : Type 0) (old new : Transcri
     pub record IsServed (Is : IsBegun shelf command → List ℕ → Type 0) (end : Result (Unit {0}) Halt) (err err_then : K) : Type 0 where
       pub begun : IsBegun shelf command
       pub served : (start : Start) → StartsAt begun.options begun.core begun.from start
-          → HasEnded begun.core begun.options start tells old new err_tells err_written err_faults err err_then (Is begun) end
-      -- if it ended by itself or by a bad line, all of the output was handed on
-      pub handed_on : MatchResult end (λ _. new.held_back ≡ 0) (λ why. why ≡ halt.BadLine → new.held_back ≡ 0)
+          → HasEnded (live_meaning begun.core begun.options) start tells old new err_tells err_written err_faults err err_then (Is begun) end
+      -- if it ended by itself or by a line, all of the output was handed on
+      pub handed_on : is_whole end ≡ true → new.held_back ≡ 0
 
     -- the text is that of the state after all bytes of the feed
     abbrev pub IsTextOf : List ℕ → IsBegun shelf command → List ℕ → Type 0

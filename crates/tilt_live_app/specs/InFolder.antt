@@ -18,7 +18,7 @@ use Rattle.tilt_live_app.specs.FolderReport.{end_of, end_of_entering, line_of_en
 use Rattle.tilt_live_cli.specs.declared.arguments.Task.TheVariants.{Position, Serve}
 use Rattle.tilt_live_folder.specs.Feeds.{Commits, EndsBadly, Fits, LiveFeed, Rejects, output_for}
 use Rattle.tilt_live_folder.specs.Machines.{IsRunning}
-use Rattle.tilt_live_run.specs.Reported.{Reported}
+use Rattle.tilt_serving.specs.Reported.{Reported}
 use Rattle.tilt_outside.specs.Counts.{added_count}
 use Rattle.tilt_outside.specs.Faults.{Rose}
 use Rattle.tilt_outside.specs.Written.{AppendsFront}

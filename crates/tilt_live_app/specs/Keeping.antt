@@ -3,9 +3,9 @@ use Rattle.std.specs.Prelude.{◌≡◌, ⊤, ℕ, List, Result, Ok, Err}
 use Rattle.tilt_compiler.specs.Accepted.{AcceptedParts}
 use Rattle.tilt_feed_text.specs.Split.{ended}
 use Rattle.tilt_live_app.specs.Change.{IsSaved, IsUnsaved, ShelfChange}
-use Rattle.tilt_live_app.specs.Serving.{IsRunAt}
 use Rattle.tilt_live_app.specs.declared.failure.Failure.{Failure}
 use Rattle.tilt_live_app.specs.declared.failure.Failure.TheVariants.{Halted, Unbegun, Unmade, Unsaved}
+use Rattle.tilt_live_run.specs.Feeds.{IsRunAt}
 use Rattle.tilt_live_run.specs.Left.{state_left}
 use Rattle.tilt_live_run.specs.declared.live_run.LiveRun.{LiveRun}
 use Rattle.tilt_live_run.specs.declared.run_options.RunOptions.{RunOptions}
@@ -23,7 +23,7 @@ IsSaveFailure other = ⊥
 module _ (run : LiveRun) (query : List StatementTree) (opening : List ℕ) (written : ℕ) where
   -- the text is that of the state of the run, whatever bytes it is after
   abbrev pub IsTextOfRun : List ℕ → Type 0
-  IsTextOfRun text = (accepted : AcceptedParts) (options : RunOptions) (bytes : List ℕ) → IsRunAt run accepted options bytes
+  IsTextOfRun text = (accepted : AcceptedParts) (options : RunOptions) (bytes : List ℕ) → IsRunAt run (record { accepted = accepted; options = options }) bytes
       → opening ≡ opened options.form → (text ≡ spelled options.form (state_left options accepted.core query (ended bytes) written))
       × IsStateOf accepted.core (state_left options accepted.core query (ended bytes) written).state
       × FitsForm options.form (state_left options accepted.core query (ended bytes) written)

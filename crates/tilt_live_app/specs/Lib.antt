@@ -1,6 +1,7 @@
 pub mod Asked
 pub mod BeginReport
 pub mod Begun
+pub mod ByKeys
 pub mod Change
 pub mod Checking
 pub mod Done
@@ -9,6 +10,4 @@ pub mod InFolder
 pub mod Keeping
 pub mod Lived
 pub mod Resumed
-pub mod Served
-pub mod Serving
 pub mod StateFile

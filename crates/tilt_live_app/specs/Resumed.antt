@@ -3,9 +3,9 @@ use Rattle.std.specs.Prelude.{◌≡◌, ◌-◌, ⊤, ℕ, List, length, Option
 use Rattle.tilt_core.specs.Core.{CoreParts}
 use Rattle.tilt_feed_form.specs.declared.feed_form.FeedForm.{FeedForm}
 use Rattle.tilt_feed_text.specs.Split.{ended}
-use Rattle.tilt_live_app.specs.Served.{Start, first_start, start_at}
 use Rattle.tilt_live_app.specs.StateFile.{TakesState}
 use Rattle.tilt_live_run.specs.Left.{state_left}
+use Rattle.tilt_live_run.specs.Output.{first_news}
 use Rattle.tilt_live_run.specs.declared.run_options.RunOptions.{RunOptions}
 use Rattle.tilt_live_state.specs.Valid.{IsStateOf}
 use Rattle.tilt_outside.specs.Counts.{added_count}
@@ -13,6 +13,7 @@ use Rattle.tilt_port.specs.Transcript.{Transcript}
 use Rattle.tilt_run_state.specs.Spelling.{spelled}
 use Rattle.tilt_run_state.specs.State.{RunStateParts}
 use Rattle.tilt_run_state.specs.Valid.{FitsForm, HasOptions, IsRunState}
+use Rattle.tilt_serving.specs.Served.{Start, first_byte, start_at}
 use Rattle.tilt_syntax.specs.Tree.{StatementTree}
 
 -- the state that a command goes on from is the one in its file; a command without such a file goes on from none
@@ -31,6 +32,10 @@ IsFitFor core form (Some s) = IsStateOf core s.state × FitsForm form s × HasOp
 abbrev pub written_before : Option RunStateParts → ℕ
 written_before None = 0
 written_before (Some s) = s.state.progress.written
+
+-- the first byte of its feed: no earlier run took any
+abbrev pub first_start : CoreParts → RunOptions → Start
+first_start core options = first_byte (first_news options.display core)
 
 module _ (options : RunOptions) (core : CoreParts) where
   -- A run starts there. Without a state that is the first byte of its feed. With a state it is a place that the state may be of. An

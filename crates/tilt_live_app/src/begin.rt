@@ -1,11 +1,11 @@
 // Where the run of a query begins.
 ghost use Rattle.std.specs.Prelude.{◌≡◌, IfOk, IfErr};
 ghost use Rattle.tilt_live_app.specs.Resumed.{IsFitFor, StartsAt};
-ghost use Rattle.tilt_live_app.specs.Served.{Start};
-ghost use Rattle.tilt_live_app.specs.Serving.{IsRunAt};
 ghost use Rattle.tilt_live_run.specs.Adds.{Adds};
+ghost use Rattle.tilt_live_run.specs.Feeds.{IsRunAt};
 ghost use Rattle.tilt_live_run.specs.Left.{KeepsState};
 ghost use Rattle.tilt_live_run.specs.Runs.{IsSound};
+ghost use Rattle.tilt_serving.specs.Served.{Start};
 
 use std::alloc::Global;
 use tilt_compiler::Accepted;
@@ -33,7 +33,7 @@ impl Begin {
         ensures adds { (start : Start) → StartsAt self.options self.accepted.core self.from start
             → Adds P.tells (P.transcript port.old) (P.transcript port.new) start.head result }
         ensures is { (start : Start) → StartsAt self.options self.accepted.core self.from start
-            → IfOk result (λ run. IsRunAt run self.accepted self.options start.before) }
+            → IfOk result (λ run. IsRunAt run (record { accepted = self.accepted; options = self.options }) start.before) }
         ensures no_bad_line { IfErr result (λ stop. stop ≡ Stop.BadLine → ⊥) }
         ensures sound { IfOk result IsSound }
         ensures keeps { self.keep ≡ Keep.State → IfOk result KeepsState }

@@ -10,10 +10,12 @@ ghost use Rattle.tilt_live_app.specs.Lived.{HasLived};
 ghost use Rattle.tilt_outside.specs.Reads.{OnlyReads};
 ghost use Rattle.tilt_report.specs.Report.{line_of, report_of, status_of};
 
+use crate::by_keys::obey_by_keys;
 use crate::checking::check_query;
 use crate::ended_run::EndedRun;
-use crate::failure::{Failure, Halt};
+use crate::failure::Failure;
 use crate::folder_end::report_fault;
+use crate::halted::report_halt;
 use crate::in_folder::{Lived, obey_in, without_folder};
 use crate::job::load_job;
 use crate::unbegun::report_unbegun;
@@ -32,6 +34,9 @@ use tilt_store::{Folder, Folders};
 ///
 /// With `--time COL` the feed is one of readings, and the options from `--name` on say how they are written and what they mean.
 ///
+/// With `--keys` each line of the feed begins with a key, and each key has a run of its own, whose rows come with the key. The run stops at
+/// a line with a new key if there are as many keys as there may be (`--max-keys N`).
+///
 /// With `--units` the query is in the units of its data, and `--scale` says what the numbers of each input are multiplied by to be whole.
 /// With `--check` the query in units is checked, and no feed is read. The port gets the scales of its inputs, the bounds of its
 /// definitions and the query over whole numbers. `--bounds` says what is known of the inputs. A line on `err` names the first definition
@@ -49,8 +54,8 @@ use tilt_store::{Folder, Folders};
 ///
 /// The status of the result is the one that the program exits with:
 /// - 0: the feed ended, and its state was saved if it was to be; or the position was printed; or the check names no definition
-/// - 1: the query, a name in an option, the state, the folder or the feed is rejected, or a line by `--strict`; or the check names a
-///   definition
+/// - 1: the query, a name in an option, the state, the folder or the feed is rejected, or a line by `--strict`. Or there are too many keys.
+///   Or the check names a definition
 /// - 2: the arguments are no command
 /// - 3: a read failed
 /// - 4: a write or a flush failed
@@ -93,13 +98,16 @@ pub fn live<S: Shelf, F: Folder, D: Folders<F>, P: Port, E: Sink>(
         let status = check_query(alloc, command.query, scales, bounds, shelf, port, err);
         return without_folder(status);
     }
-    match &command.folder {
+    if let Some(choice) = &command.folder {
+        return obey_in(alloc, &command, choice, shelf, folders, port, err);
+    }
+    match command.asked.keys {
         None => without_folder(obey(alloc, &command, shelf, port, err)),
-        Some(choice) => obey_in(alloc, &command, choice, shelf, folders, port, err),
+        Some(most) => without_folder(obey_by_keys(alloc, &command, most, shelf, port, err)),
     }
 }
 
-// Does what a command asks for that chooses no folder, and returns the status.
+// Does what a command asks for that chooses no folder and has no keys, and returns the status.
 fn obey<S: Shelf, P: Port, E: Sink>(
     alloc: Global,
     command: &LiveCommand<'_>,
@@ -121,10 +129,7 @@ fn obey<S: Shelf, P: Port, E: Sink>(
 {
     match run(alloc, command, shelf, port, err) {
         Ok(()) => 0,
-        Err(Failure::Halted(Halt::BadLine)) => 1,
-        Err(Failure::Halted(Halt::ReadFault)) => report_fault(err, &Fault::ReadFault("-")),
-        Err(Failure::Halted(Halt::WriteFault)) => report_fault(err, &Fault::WriteFault),
-        Err(Failure::Halted(Halt::OutOfMemory)) => report_fault(err, &Fault::OutOfMemory),
+        Err(Failure::Halted(halt)) => report_halt(err, halt),
         Err(Failure::Unbegun(why)) => report_unbegun(err, &why),
         Err(Failure::Unsaved(name)) => report_fault(err, &Fault::SaveFault(name)),
         Err(Failure::Unmade) => report_fault(err, &Fault::OutOfMemory),

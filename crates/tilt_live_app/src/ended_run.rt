@@ -1,17 +1,18 @@
 // A feed that was served to its end, and what is kept of its run.
-ghost use Rattle.std.specs.Prelude.{◌≡◌, ◌≤◌, ◌-◌, ◌↔◌, ℕ, List, Ok, Err, length, IfOk, IfErr, MatchResult};
+ghost use Rattle.std.specs.Prelude.{◌≡◌, ◌≤◌, ◌-◌, ◌↔◌, ℕ, List, Ok, Err, length, true, IfOk, IfErr, MatchResult};
 ghost use Rattle.tilt_live_app.specs.Change.{shelf_change};
 ghost use Rattle.tilt_live_app.specs.Keeping.{HasKept, IsSaveFailure, IsTextOfRun};
 ghost use Rattle.tilt_live_app.specs.Resumed.{IsFitFor, StartsAt, written_before};
-ghost use Rattle.tilt_live_app.specs.Served.{HasEnded, HasServed, Start};
-ghost use Rattle.tilt_live_app.specs.Serving.{IsRunAt};
+ghost use Rattle.tilt_live_run.specs.Feeds.{IsRunAt, live_meaning};
 ghost use Rattle.tilt_live_run.specs.Left.{KeepsState};
 ghost use Rattle.tilt_live_run.specs.Runs.{IsSound};
 ghost use Rattle.tilt_outside.specs.Counts.{added_count};
 ghost use Rattle.tilt_outside.specs.Reads.{OnlyReads};
+ghost use Rattle.tilt_serving.specs.Served.{HasEnded, HasServed, Start};
+ghost use Rattle.tilt_serving.specs.Stops.{is_whole};
 
 use crate::begin::Begin;
-use crate::failure::{Failure, Halt};
+use crate::failure::Failure;
 use crate::job::Job;
 use crate::serve::serve;
 use std::alloc::{AllocError as OutOfMemory, Global};
@@ -19,6 +20,7 @@ use tilt_live_run::{Keep, LiveRun};
 use tilt_outside::{Shelf, Sink};
 use tilt_port::Port;
 use tilt_run_state::{RunState, put_state};
+use tilt_serving::Halt;
 use tilt_syntax::Query;
 
 // The run of a query whose feed has ended, and how many bytes of output were written for the feed.
@@ -44,12 +46,12 @@ impl EndedRun {
         requires lines { (n : ℕ) → E.takes err.old n }
         ensures served { (start : Start) → StartsAt job.options job.accepted.core job.from start
             → MatchResult result
-            (λ served. HasEnded job.accepted.core job.options start P.tells (P.transcript port.old) (P.transcript port.new)
-            E.tells E.written E.faults err.old err.new (IsRunAt served.run job.accepted job.options) (Ok tt))
-            (λ why. HasServed job.accepted.core job.options start P.tells (P.transcript port.old) (P.transcript port.new)
+            (λ served. HasEnded (live_meaning job.accepted.core job.options) start P.tells (P.transcript port.old) (P.transcript port.new)
+            E.tells E.written E.faults err.old err.new
+            (IsRunAt served.run (record { accepted = job.accepted; options = job.options })) (Ok tt))
+            (λ why. HasServed (live_meaning job.accepted.core job.options) start P.tells (P.transcript port.old) (P.transcript port.new)
             E.tells E.written E.faults err.old err.new (Err why)) }
-        ensures handed_on { MatchResult result (λ _. (P.transcript port.new).held_back ≡ 0)
-            (λ why. why ≡ Halt.BadLine → (P.transcript port.new).held_back ≡ 0) }
+        ensures handed_on { is_whole result ≡ true → (P.transcript port.new).held_back ≡ 0 }
         ensures query { IfOk result (λ served. served.query ≡ job.query) }
         ensures opening { IfOk result (λ served. served.opening ≡ job.opening) }
         ensures written { P.tells → IfOk result (λ served. served.written ≡ added_count (written_before job.from)

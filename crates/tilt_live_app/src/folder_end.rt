@@ -2,7 +2,7 @@
 ghost use Rattle.std.specs.Prelude.{◌≡◌, ℕ};
 ghost use Rattle.tilt_live_app.specs.FolderReport.{end_of, end_of_entering, end_of_halt, end_of_opening, end_of_start, end_value};
 ghost use Rattle.tilt_live_app.specs.FolderReport.{line_of_end, status_of_end};
-ghost use Rattle.tilt_live_run.specs.Reported.{Reported};
+ghost use Rattle.tilt_serving.specs.Reported.{Reported};
 ghost use Rattle.tilt_report.specs.Report.{line_of, report_of, status_of};
 
 use crate::folder_fault::put_fault;

@@ -4,7 +4,7 @@ ghost use Rattle.tilt_live_cli.specs.Arguments.{choice_value, command_value};
 ghost use Rattle.tilt_live_app.specs.Change.{shelf_change};
 ghost use Rattle.tilt_live_app.specs.InFolder.{HasCounted, HasDoneIn, HasPrinted, HasServedIn, IsPrinted, folder_meaning};
 ghost use Rattle.tilt_live_app.specs.InFolder.{folders_change, line_of_served, position_text, status_of_served};
-ghost use Rattle.tilt_live_run.specs.Reported.{Reported};
+ghost use Rattle.tilt_serving.specs.Reported.{Reported};
 ghost use Rattle.tilt_outside.specs.Reads.{OnlyReads};
 ghost use Rattle.tilt_store.specs.Crash.{Only};
 

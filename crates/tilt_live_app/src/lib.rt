@@ -4,6 +4,8 @@
 //!
 //! With `--check` no feed is read: the query in units is checked, and its bounds are printed, as `specs/Checking` says.
 //!
+//! With `--keys` each key of the feed has a run of its own, as `specs/ByKeys` says.
+//!
 //! A feed has rows, or readings if there is a column of times. `specs/Asked` says which run the arguments ask for.
 //!
 //! `specs/Lived` says what the call does: the clause `is` of `live` has a case for each end. If the query was taken, `HasServed` says what
@@ -12,12 +14,14 @@
 #![tactic(auto)]
 
 mod begin;
+mod by_keys;
 mod checking;
 mod command;
 mod ended_run;
 mod failure;
 mod folder_end;
 mod folder_fault;
+mod halted;
 mod in_folder;
 mod job;
 mod law;

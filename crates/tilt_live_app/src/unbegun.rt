@@ -1,7 +1,7 @@
 // Why a feed isn't begun, and how that is reported.
 ghost use Rattle.std.specs.Prelude.{◌≡◌, ℕ};
 ghost use Rattle.tilt_live_app.specs.BeginReport.{begin_report, line_of_begin, status_of_begin};
-ghost use Rattle.tilt_live_run.specs.Reported.{Reported};
+ghost use Rattle.tilt_serving.specs.Reported.{Reported};
 
 use crate::folder_end::report_fault;
 use crate::named_line::put_line;

@@ -28,6 +28,11 @@ display_asked settings = record {
   style = record { times = Ticks; decimals = min (number_or 0 (ticks_of (set_to (codes "--decimals") settings))) 19 };
 }
 
+-- how many keys a feed may have at most, if its lines have keys: as many as there can be, if no number is given
+abbrev pub keys_asked : Bool → Option ℕ → Option ℕ
+keys_asked true most = Some (number_or 18446744073709551615 most)
+keys_asked false most = None
+
 -- what the options ask of a run
 abbrev pub asked_options : List SettingValue → Asked
 asked_options settings = record {
@@ -38,6 +43,7 @@ asked_options settings = record {
     ahead = ticks_of (set_to (codes "--ahead") settings);
     lateness = ticks_of (set_to (codes "--lateness") settings);
   };
+  keys = keys_asked (is_set (codes "--keys") settings) (ticks_of (set_to (codes "--max-keys") settings));
 }
 
 -- what is done with a folder. Its position is printed, if that is asked for. Otherwise a feed is served, which is read from its first byte,

@@ -14,6 +14,8 @@ live_options =
     ∷ record { word = codes "--lateness"; shape = Ticks }
     ∷ record { word = codes "--idle"; shape = Ticks }
     ∷ record { word = codes "--ahead"; shape = Ticks }
+    ∷ record { word = codes "--keys"; shape = Flag }
+    ∷ record { word = codes "--max-keys"; shape = Ticks }
     ∷ record { word = codes "--resume"; shape = Text }
     ∷ record { word = codes "--save"; shape = Text }
     ∷ record { word = codes "--folder"; shape = Text }
@@ -53,6 +55,10 @@ reading_options =
     codes "--name" ∷ codes "--value" ∷ codes "--tick" ∷ codes "--origin" ∷ codes "--unit" ∷ codes "--event" ∷ codes "--events"
     ∷ codes "--max-age" ∷ codes "--closed" ∷ codes "--ties" ∷ codes "--null" ∷ codes "--skip-empty" ∷ codes "--delimiter" ∷ codes "--decimal"
     ∷ codes "--times" ∷ []
+
+-- those that a feed with keys doesn't have: its runs have no states, and its lines are rows
+abbrev pub keyless_options : List (List ℕ)
+keyless_options = codes "--resume" ∷ codes "--save" ∷ codes "--folder" ∷ codes "--time" ∷ codes "--check" ∷ []
 
 -- whether one of these options is set
 abbrev pub is_one_set : List (List ℕ) → List SettingValue → Bool
@@ -96,6 +102,10 @@ checks_fit settings =
     if is_set (codes "--check") settings then is_set (codes "--units") settings && not (is_set (codes "--position") settings)
     else not (is_set (codes "--bounds") settings)
 
+-- whether a feed with keys has no other options than those that it can have, and a number of keys is that of such a feed
+abbrev pub keys_fit : List SettingValue → Bool
+keys_fit settings = if is_set (codes "--keys") settings then not (is_one_set keyless_options settings) else not (is_set (codes "--max-keys") settings)
+
 -- whether they fit together
 abbrev pub options_fit : List SettingValue → Bool
-options_fit settings = folders_fit settings && forms_fit settings && decimals_fit settings && units_fit settings && checks_fit settings
+options_fit settings = folders_fit settings && forms_fit settings && decimals_fit settings && units_fit settings && checks_fit settings && keys_fit settings

@@ -4,7 +4,7 @@ ghost use Rattle.tilt_cli.specs.Arguments.{arguments_of};
 ghost use Rattle.tilt_cli.specs.Command.{texts};
 ghost use Rattle.tilt_cli.specs.declared.fault.WordsFault.TheVariants.{Usage};
 ghost use Rattle.tilt_live_cli.specs.Arguments.{CommandValue, IsLiveCommand, asked_options, choice_value, chosen, command_value};
-ghost use Rattle.tilt_live_cli.specs.Arguments.{display_asked, number_or, task_asked};
+ghost use Rattle.tilt_live_cli.specs.Arguments.{display_asked, keys_asked, number_or, task_asked};
 ghost use Rattle.tilt_live_cli.specs.Readings.{reading_texts, scale_text, text_at};
 
 use crate::asked::Asked;
@@ -228,5 +228,17 @@ fn asked_options(given: &Arguments) -> Asked
             ahead: given.ticks_of("--ahead"),
             lateness: given.ticks_of("--lateness"),
         },
+        keys: keys_asked(given.has("--keys"), given.ticks_of("--max-keys")),
+    }
+}
+
+// How many keys a feed may have at most, if its lines have keys.
+fn keys_asked(keyed: bool, most: Option<u64>) -> Option<u64>
+    ensures { result ≡ keys_asked keyed most }
+{
+    if keyed {
+        Some(number_or(u64::MAX, most))
+    } else {
+        None
     }
 }

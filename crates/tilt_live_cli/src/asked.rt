@@ -10,4 +10,6 @@ pub struct Asked {
     pub strict: bool,
     /// What is asked of its watermarks.
     pub watermarks: Options,
+    /// How many keys its feed may have at most, if each line has a key.
+    pub keys: Option<u64>,
 }

@@ -5,13 +5,14 @@ ghost use Rattle.tilt_cli.specs.Arguments.{AreArguments, ArgumentsValue, argumen
 ghost use Rattle.tilt_cli.specs.Command.{texts};
 ghost use Rattle.tilt_cli.specs.Options.{is_set};
 ghost use Rattle.tilt_cli.specs.declared.fault.WordsFault.TheVariants.{Usage};
-ghost use Rattle.tilt_live_cli.specs.LiveOptions.{checks_fit, decimals_fit, folders_fit, forms_fit, live_options, options_fit, units_fit};
+ghost use Rattle.tilt_live_cli.specs.LiveOptions.{checks_fit, decimals_fit, folders_fit, forms_fit, keys_fit};
+ghost use Rattle.tilt_live_cli.specs.LiveOptions.{live_options, options_fit, units_fit};
 
 use std::alloc::Global;
 use tilt_cli::{Arguments, OptionRow, Shape, WordsFault};
 
 // All options, each with what it does.
-const LIVE_OPTIONS: [OptionRow; 33] = [
+const LIVE_OPTIONS: [OptionRow; 35] = [
     // prints also what has begun
     OptionRow {
         word: "--begun",
@@ -40,6 +41,16 @@ const LIVE_OPTIONS: [OptionRow; 33] = [
     // rejects a line that starts more than `N` ticks ahead
     OptionRow {
         word: "--ahead",
+        shape: Shape::Ticks,
+    },
+    // reads lines that begin with a key, each with a run of its own
+    OptionRow {
+        word: "--keys",
+        shape: Shape::Flag,
+    },
+    // stops if there are more than `N` keys
+    OptionRow {
+        word: "--max-keys",
         shape: Shape::Ticks,
     },
     // goes on from the state in a file
@@ -201,6 +212,9 @@ const READING_OPTIONS: [&str; 15] = [
     "--times",
 ];
 
+// The options that a feed with keys doesn't have.
+const KEYLESS_OPTIONS: [&str; 5] = ["--resume", "--save", "--folder", "--time", "--check"];
+
 // The arguments after the file of the query.
 pub(crate) fn read_options(alloc: Global, words: &[String]) -> Result<Arguments, WordsFault>
     ensures { MatchResult result
@@ -219,6 +233,7 @@ pub(crate) fn options_fit(given: &Arguments) -> bool
         && decimals_fit(given)
         && units_fit(given)
         && checks_fit(given)
+        && keys_fit(given)
 }
 
 // Whether the options of folders and states fit together. With a folder there are no files of states. If its position is asked for, there
@@ -276,6 +291,17 @@ fn checks_fit(given: &Arguments) -> bool
         given.has("--units") && !given.has("--position")
     } else {
         !given.has("--bounds")
+    }
+}
+
+// Whether a feed with keys has no other options than those that it can have, and a number of keys is that of such a feed.
+fn keys_fit(given: &Arguments) -> bool
+    ensures { result ≡ keys_fit (arguments_of given.now).settings }
+{
+    if given.has("--keys") {
+        !is_one_set(given, &KEYLESS_OPTIONS)
+    } else {
+        !given.has("--max-keys")
     }
 }
 

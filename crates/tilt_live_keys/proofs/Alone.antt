@@ -14,7 +14,7 @@ use Rattle.tilt_keyed_run.specs.Output.{address_output, alone, output, written}
 use Rattle.tilt_live_keys.specs.Output.{after_heard, heard, passed_lines, heard_stop, is_skipped, output_from}
 use Rattle.tilt_live_keys.specs.Recipe.{key_added, key_first, key_options}
 use Rattle.tilt_live_keys.specs.declared.key_recipe.KeyRecipe.{KeyRecipe}
-use Rattle.tilt_live_keys.specs.declared.stop.Stop.{Stop}
+use Rattle.tilt_serving.specs.declared.stop.Stop.{Stop}
 use Rattle.tilt_live_run.proofs.Baring.{state-push}
 use Rattle.tilt_live_run.specs.Bare.{state_of}
 use Rattle.tilt_live_run.specs.Output.{news_from}

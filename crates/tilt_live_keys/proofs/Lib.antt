@@ -1,8 +1,8 @@
 pub mod Alone
 pub mod Cutting
+pub mod Feeding
 pub mod Lines
 pub mod Pieces
-pub mod Reporting
 pub mod Running
 pub mod Underway
 pub mod Whole

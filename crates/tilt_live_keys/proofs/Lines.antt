@@ -4,15 +4,15 @@ use Rattle.tilt_feed_form.specs.declared.bad_feed_line.BadFeedLine.{BadFeedLine}
 use Rattle.tilt_keyed_line.specs.Feeds.{KeyedFeed}
 use Rattle.tilt_keyed_run.specs.Output.{address_output}
 use Rattle.tilt_keyed_run.specs.declared.bad_keyed_line.BadKeyedLine.{BadKeyedLine}
-use Rattle.tilt_live_keys.proofs.Reporting.{reports-whole}
+use Rattle.tilt_serving.proofs.Reporting.{reports-whole}
 use Rattle.tilt_live_keys.specs.Output.{Heard, after_heard, heard_exceeds, heard_fault}
 use Rattle.tilt_live_keys.specs.Recipe.{key_added, key_first}
 use Rattle.tilt_live_keys.specs.Report.{keyed_report_of}
 use Rattle.tilt_live_keys.specs.Taken.{HasTakenLine}
 use Rattle.tilt_live_keys.specs.declared.key_recipe.KeyRecipe.{KeyRecipe}
-use Rattle.tilt_live_keys.specs.declared.stop.Stop.{Stop}
-use Rattle.tilt_live_keys.specs.declared.stop.Stop.TheVariants as stop
-use Rattle.tilt_live_run.specs.Reported.{Reported}
+use Rattle.tilt_serving.specs.declared.stop.Stop.{Stop}
+use Rattle.tilt_serving.specs.declared.stop.Stop.TheVariants as stop
+use Rattle.tilt_serving.specs.Reported.{Reported}
 use Rattle.tilt_outside.specs.Counts.{next_count}
 
 -- the runs of keys write to no port

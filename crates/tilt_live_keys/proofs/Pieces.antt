@@ -4,13 +4,13 @@ use Rattle.std.proofs.lemmas.Bool.{cases_Bool}
 use Rattle.std.proofs.lemmas.List.{append-nil}
 use Rattle.tilt_feed_text.proofs.Splitting.{lines-none, lines-until, unfinished-none, unfinished-until}
 use Rattle.tilt_keyed_line.specs.Feeds.{KeyedFeed}
-use Rattle.tilt_live_keys.proofs.Reporting.{reports-lost, reports-none, reports-short, reports-then}
+use Rattle.tilt_serving.proofs.Reporting.{reports-lost, reports-none, reports-short, reports-then}
 use Rattle.tilt_live_keys.specs.Output.{Heard, after_heard, heard, heard_report, heard_stop}
-use Rattle.tilt_live_keys.specs.Stops.{is_loss, is_lost}
+use Rattle.tilt_serving.specs.Stops.{is_loss, is_lost}
 use Rattle.tilt_live_keys.specs.Taken.{HasTakenLine, HasTakenPiece}
 use Rattle.tilt_live_keys.specs.declared.key_recipe.KeyRecipe.{KeyRecipe}
-use Rattle.tilt_live_keys.specs.declared.stop.Stop.{Stop}
-use Rattle.tilt_live_keys.specs.declared.stop.Stop.TheVariants as stop
+use Rattle.tilt_serving.specs.declared.stop.Stop.{Stop}
+use Rattle.tilt_serving.specs.declared.stop.Stop.TheVariants as stop
 use Rattle.tilt_outside.specs.Counts.{next_count}
 use Rattle.tilt_text.specs.Cut.{until_at}
 

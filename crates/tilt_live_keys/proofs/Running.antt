@@ -17,7 +17,7 @@ feed-append : (number : ℕ) (feed : KeyedFeed) (xs ys : List (List ℕ)) → fe
 feed-append number feed [] ys = refl
 feed-append number feed (x ∷ xs) ys = feed-append (next_count number) (after_heard (heard number x) feed) xs ys
 
-feed-more : (bytes piece : List ℕ) → feed_after (bytes ++ piece) ≡ feed_from (number_of bytes) (feed_after bytes) (new_lines bytes piece)
+pub feed-more : (bytes piece : List ℕ) → feed_after (bytes ++ piece) ≡ feed_from (number_of bytes) (feed_after bytes) (new_lines bytes piece)
 feed-more bytes piece = rw (lines-append [] bytes piece) (feed-append 0 empty_keyed_feed (whole_lines bytes) (new_lines bytes piece))
 
 pub keyed-more : (run : KeyedLive) (recipe : KeyRecipe) (bytes piece : List ℕ)

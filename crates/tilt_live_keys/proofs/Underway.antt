@@ -8,8 +8,8 @@ use Rattle.tilt_live_keys.specs.Taken.{HasTakenLine, HasTakenPiece}
 use Rattle.tilt_live_keys.specs.declared.key_recipe.KeyRecipe.{KeyRecipe}
 use Rattle.tilt_live_keys.specs.declared.keyed_lines.KeyedLines.{KeyedLines}
 use Rattle.tilt_live_keys.specs.declared.keyed_live.KeyedLive.{KeyedLive}
-use Rattle.tilt_live_keys.specs.declared.stop.Stop.{Stop}
-use Rattle.tilt_live_keys.specs.declared.stop.Stop.TheVariants as stop
+use Rattle.tilt_serving.specs.declared.stop.Stop.{Stop}
+use Rattle.tilt_serving.specs.declared.stop.Stop.TheVariants as stop
 use Rattle.tilt_outside.specs.Counts.{next_count}
 use Rattle.tilt_text.specs.Cut.{until_at}
 

@@ -1,4 +1,3 @@
-pub mod Adds
 pub mod Output
 pub mod Recipe
 pub mod Report

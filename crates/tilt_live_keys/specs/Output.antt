@@ -17,8 +17,8 @@ use Rattle.tilt_keyed_run.specs.declared.bad_keyed_line.BadKeyedLine.TheVariants
 use Rattle.tilt_live_keys.specs.Recipe.{key_added, key_fault, key_first}
 use Rattle.tilt_live_keys.specs.Report.{keyed_report_of}
 use Rattle.tilt_live_keys.specs.declared.key_recipe.KeyRecipe.{KeyRecipe}
-use Rattle.tilt_live_keys.specs.declared.stop.Stop.{Stop}
-use Rattle.tilt_live_keys.specs.declared.stop.Stop.TheVariants.{BadLine, TooManyKeys}
+use Rattle.tilt_serving.specs.declared.stop.Stop.{Stop}
+use Rattle.tilt_serving.specs.declared.stop.Stop.TheVariants.{BadLine, TooManyKeys}
 use Rattle.tilt_outside.specs.Counts.{next_count}
 
 -- whether a line is a header, perhaps with a CR at its end

@@ -1,5 +1,5 @@
 -- Which run is one of a feed with keys, and what a piece of the feed adds (our own rule).
-use Rattle.std.specs.Prelude.{◌≡◌, ◌+◌, ℕ, List, [], take, if◌then◌else◌, Option}
+use Rattle.std.specs.Prelude.{◌≡◌, ◌+◌, ◌&&◌, ℕ, List, [], take, if◌then◌else◌, Option}
 use Rattle.tilt_feed_form.specs.declared.bad_feed_line.BadFeedLine.TheVariants as bad
 use Rattle.tilt_feed_text.specs.Split.{unfinished, whole_lines}
 use Rattle.tilt_feed_text.specs.declared.bad_line.BadLine.TheVariants.{NoEnd}
@@ -13,7 +13,9 @@ use Rattle.tilt_live_keys.specs.Report.{keyed_report}
 use Rattle.tilt_live_keys.specs.declared.key_recipe.KeyRecipe.{KeyRecipe}
 use Rattle.tilt_live_keys.specs.declared.keyed_lines.KeyedLines.{KeyedLines}
 use Rattle.tilt_live_keys.specs.declared.keyed_live.KeyedLive.{KeyedLive}
-use Rattle.tilt_live_keys.specs.declared.stop.Stop.{Stop}
+use Rattle.tilt_serving.specs.Meaning.{FeedMeaning}
+use Rattle.tilt_serving.specs.declared.stop.Stop.{Stop}
+use Rattle.tilt_live_run.specs.Feeds.{bad_line_if}
 use Rattle.tilt_live_run.specs.Runs.{is_unfinished, new_lines, number_of}
 use Rattle.tilt_outside.specs.Counts.{next_count}
 
@@ -37,6 +39,10 @@ feed_after bytes = feed_from 0 empty_keyed_feed (whole_lines bytes)
 abbrev pub IsKeyedLiveOf : KeyedLive → KeyRecipe → List ℕ → Type 0
 IsKeyedLiveOf run recipe bytes = IsRunAfter run recipe (number_of bytes) (feed_after bytes) (unfinished bytes)
 
+-- it is the run of some recipe after some bytes
+abbrev pub IsKeyedLive : KeyedLive → Type 0
+IsKeyedLive run = (recipe : KeyRecipe) × (bytes : List ℕ) × IsKeyedLiveOf run recipe bytes
+
 -- what is written for the lines that end in a piece after bytes, up to the first one that stops the run
 abbrev pub added : KeyRecipe → List ℕ → List ℕ → List ℕ
 added recipe bytes piece = output_from recipe (number_of bytes) (feed_after bytes) (new_lines bytes piece)
@@ -52,3 +58,13 @@ stop_in recipe bytes piece = stop_from recipe (number_of bytes) (feed_after byte
 -- the report of the line in the middle of which the feed ended, if it did
 abbrev pub end_report : List ℕ → List ℕ
 end_report bytes = if is_unfinished bytes then keyed_report (next_count (number_of bytes)) (OfKey (bad.Rows NoEnd)) else []
+
+-- what the run of a recipe makes of its feed
+abbrev pub keyed_meaning : KeyRecipe → FeedMeaning
+keyed_meaning recipe = record {
+  added = added recipe;
+  reported = reported recipe;
+  stop = stop_in recipe;
+  end_report = end_report;
+  end_stop = λ bytes. bad_line_if (recipe.strict && is_unfinished bytes);
+}

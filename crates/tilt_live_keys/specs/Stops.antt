@@ -1,30 +1,14 @@
 -- Why the run of a feed with keys stops.
-use Rattle.std.specs.Prelude.{◌≡◌, ◌⊎◌, Bool, false, true, Option, None, Some, Result, Ok, Err, MatchResult}
+use Rattle.std.specs.Prelude.{◌≡◌, ◌⊎◌, Bool, false, true, Result, MatchResult}
 use Rattle.tilt_keyed_run.specs.declared.halt.Halt.{Halt}
 use Rattle.tilt_keyed_run.specs.declared.halt.Halt.TheVariants as halts
-use Rattle.tilt_live_keys.specs.declared.stop.Stop.{Stop}
-use Rattle.tilt_live_keys.specs.declared.stop.Stop.TheVariants as stops
+use Rattle.tilt_serving.specs.declared.stop.Stop.{Stop}
+use Rattle.tilt_serving.specs.declared.stop.Stop.TheVariants as stops
 
 -- why it stops if the runs of the keys do
 abbrev pub stop_of_halt : Halt → Stop
 stop_of_halt halts.TooManyKeys = stops.TooManyKeys
 stop_of_halt halts.OutOfMemory = stops.OutOfMemory
-
--- whether it is lost: it stopped, and not because of a line
-abbrev pub is_loss : Stop → Bool
-is_loss stops.BadLine = false
-is_loss stops.TooManyKeys = false
-is_loss stops.WriteFault = true
-is_loss stops.OutOfMemory = true
-
-abbrev pub is_lost : {T : Type 0} → Result T Stop → Bool
-is_lost (Ok value) = false
-is_lost (Err stop) = is_loss stop
-
--- why it stopped, if it did
-abbrev pub stop_of : {T : Type 0} → Result T Stop → Option Stop
-stop_of (Ok value) = None
-stop_of (Err stop) = Some stop
 
 -- a line is passed on only if its key isn't one too many. If it isn't passed on, its key is, or there was no memory
 abbrev pub StopsIfFull : {T : Type 0} → Result T Stop → Bool → Type 0

@@ -3,12 +3,12 @@ use Rattle.std.specs.Prelude.{◌≡◌, ℕ, false, List, ◌++◌, Result, OnO
 use Rattle.tilt_feed_text.specs.Said.{number_after}
 use Rattle.tilt_feed_text.specs.Split.{lines_after, unfinished_after}
 use Rattle.tilt_keyed_line.specs.Feeds.{KeyedFeed}
-use Rattle.tilt_live_keys.specs.Adds.{Reports}
+use Rattle.tilt_serving.specs.Reported.{Reports}
 use Rattle.tilt_live_keys.specs.Output.{Heard, after_heard, feed_from, heard_output, heard_report, heard_stop}
 use Rattle.tilt_live_keys.specs.Output.{output_from, reports_from, stop_from}
-use Rattle.tilt_live_keys.specs.Stops.{is_lost, stop_of}
+use Rattle.tilt_serving.specs.Stops.{is_lost, stop_of}
 use Rattle.tilt_live_keys.specs.declared.key_recipe.KeyRecipe.{KeyRecipe}
-use Rattle.tilt_live_keys.specs.declared.stop.Stop.{Stop}
+use Rattle.tilt_serving.specs.declared.stop.Stop.{Stop}
 use Rattle.tilt_outside.specs.Counts.{next_count}
 
 -- The meanings of the sink of reports, and what is run.

@@ -6,20 +6,20 @@ ghost use Rattle.tilt_live_keys.specs.Output.{after_heard, heard, heard_exceeds,
 ghost use Rattle.tilt_live_keys.specs.Recipe.{key_added, key_first};
 ghost use Rattle.tilt_live_keys.specs.Report.{keyed_report_of};
 ghost use Rattle.tilt_live_keys.specs.Runs.{AreLinesOf};
-ghost use Rattle.tilt_live_keys.specs.Stops.{StopsIfFull};
+ghost use Rattle.tilt_live_keys.specs.Stops.{StopsIfFull, stop_of_halt};
 ghost use Rattle.tilt_live_keys.specs.Taken.{HasTakenLine};
 ghost use Rattle.tilt_live_keys.specs.declared.key_recipe.KeyRecipe.{KeyRecipe};
-ghost use Rattle.tilt_live_run.specs.Reported.{Reported};
+ghost use Rattle.tilt_serving.specs.Reported.{Reported};
 
 use crate::key_live::KeyLive;
 use crate::key_recipe::KeyRecipe;
 use crate::report::put_report;
-use crate::stop::Stop;
 use std::alloc::Global;
 use tilt_feed_form::BadFeedLine;
 use tilt_feed_text::{BadLine, LINE};
-use tilt_keyed_run::{BadKeyedLine, KeyedRun};
+use tilt_keyed_run::{BadKeyedLine, Halt, KeyedRun};
 use tilt_outside::Sink;
+use tilt_serving::Stop;
 
 // The runs of all keys, and what is written for the lines that they take.
 #[derive(Drop)]
@@ -104,7 +104,10 @@ impl KeyedLines {
         if self.number == 0 && is_header(line) {
             return Ok(None);
         }
-        Ok(self.runs.take(alloc, &self.recipe, line, &mut self.output)?)
+        match self.runs.take(alloc, &self.recipe, line, &mut self.output) {
+            Ok(why) => Ok(why),
+            Err(halt) => Err(stop_of_halt(halt)),
+        }
     }
 
     // Reports why the line after those that were taken is bad, if it is. A fault of the sink changes nothing.
@@ -116,6 +119,16 @@ impl KeyedLines {
         if let Some(why) = why {
             let _ = put_report(err, self.number.saturating_add(1), why);
         }
+    }
+}
+
+// Why the run stops if the runs of the keys do.
+fn stop_of_halt(halt: Halt) -> Stop
+    ensures { result ≡ stop_of_halt halt }
+{
+    match halt {
+        Halt::TooManyKeys => Stop::TooManyKeys,
+        Halt::OutOfMemory => Stop::OutOfMemory,
     }
 }
 

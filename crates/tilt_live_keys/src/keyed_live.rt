@@ -1,24 +1,25 @@
 // The run of a feed with keys, piece by piece.
 ghost use Rattle.std.specs.Prelude.{◌≡◌, ◌&&◌, ◌++◌, ℕ, List, [], codes, false, true, IfErr, IfOk, MatchResult, OnOk};
 ghost use Rattle.tilt_keyed_line.specs.Feeds.{KeyedFeed};
-ghost use Rattle.tilt_live_keys.specs.Adds.{Adds, Reports};
+ghost use Rattle.tilt_serving.specs.Adds.{Adds};
+ghost use Rattle.tilt_serving.specs.Reported.{Reports};
 ghost use Rattle.tilt_live_keys.specs.Output.{heard};
 ghost use Rattle.tilt_live_keys.specs.Runs.{IsKeyedLiveOf, IsRunAfter, added, end_report, reported, stop_in};
-ghost use Rattle.tilt_live_keys.specs.Stops.{is_lost, stop_of};
+ghost use Rattle.tilt_serving.specs.Stops.{is_lost, stop_of};
 ghost use Rattle.tilt_live_keys.specs.Taken.{HasTakenLine, HasTakenPiece};
 ghost use Rattle.tilt_live_keys.specs.declared.key_recipe.KeyRecipe.{KeyRecipe};
-ghost use Rattle.tilt_live_run.specs.Reported.{Reported};
+ghost use Rattle.tilt_serving.specs.Reported.{Reported};
 ghost use Rattle.tilt_live_run.specs.Runs.{is_unfinished};
 
 use crate::key_recipe::KeyRecipe;
 use crate::keyed_lines::KeyedLines;
-use crate::stop::Stop;
 use std::alloc::Global;
 use tilt_feed_form::BadFeedLine;
 use tilt_feed_text::{BadLine, append_cut};
 use tilt_keyed_run::BadKeyedLine;
 use tilt_outside::Sink;
 use tilt_port::Port;
+use tilt_serving::{FeedRun, Stop};
 use tilt_text::until;
 
 /// The run of a feed with keys, of which each has a run of its own. It takes the bytes of the feed, in pieces of any size, and writes what
@@ -51,38 +52,6 @@ impl KeyedLive {
             lines: KeyedLines::new(alloc, recipe),
             pending: Vec::new(alloc),
         })
-    }
-
-    /// Takes the next piece of the feed. It writes what the lines that end in it make final, and reports the bad ones of them by their
-    /// numbers in the whole feed. `BadLine` comes if one of them is bad and the run is strict. `TooManyKeys` comes if one has a new key and
-    /// there are as many as there may be. Then what the lines before it make final is written. `WriteFault` comes only if the count of the
-    /// port's write faults rose, and `OutOfMemory` if memory runs out. After an error the run is over, and takes no piece.
-    pub fn take<P: Port, E: Sink>(
-        &mut self,
-        alloc: Global,
-        piece: &[u8],
-        port: &mut P,
-        err: &mut E,
-    ) -> Result<(), Stop>
-        requires runs { (recipe : KeyRecipe) × (bytes : List ℕ) × IsKeyedLiveOf self.old recipe bytes }
-        requires lines { (n : ℕ) → E.takes err.old n }
-        ensures adds { (recipe : KeyRecipe) (bytes : List ℕ) → IsKeyedLiveOf self.old recipe bytes
-            → Adds P.tells (P.transcript port.old) (P.transcript port.new) (added recipe bytes piece.now) result }
-        ensures reports { (recipe : KeyRecipe) (bytes : List ℕ) → IsKeyedLiveOf self.old recipe bytes
-            → Reports E.tells E.written E.faults err.old err.new (reported recipe bytes piece.now) result }
-        ensures goes_on { (recipe : KeyRecipe) (bytes : List ℕ) → IsKeyedLiveOf self.old recipe bytes
-            → OnOk result (IsKeyedLiveOf self.new recipe (bytes ++ piece.now)) }
-        ensures stops { (recipe : KeyRecipe) (bytes : List ℕ) → IsKeyedLiveOf self.old recipe bytes
-            → is_lost result ≡ false → stop_of result ≡ stop_in recipe bytes piece.now }
-        ensures takes { (n : ℕ) → E.takes err.new n }
-    {
-        self.lines.output.clear();
-        let taken = self.take_piece(alloc, piece, err);
-        if is_lost(taken) {
-            return taken;
-        }
-        port.write(&self.lines.output)?;
-        taken
     }
 
     // Takes a piece, and writes nothing yet.
@@ -126,18 +95,45 @@ impl KeyedLive {
         self.pending.clear();
         Ok(())
     }
+}
+
+impl FeedRun for KeyedLive {
+    ghost use Rattle.std.specs.Prelude.{⊤};
+    ghost use Rattle.tilt_live_keys.specs.Runs.{IsKeyedLive, IsKeyedLiveOf, keyed_meaning};
+    ghost use Rattle.tilt_live_keys.specs.declared.key_recipe.KeyRecipe.{KeyRecipe};
+
+    ghost Of = { KeyRecipe };
+
+    ghost is = { IsKeyedLiveOf };
+
+    ghost sound = { IsKeyedLive };
+
+    ghost keeps = { λ _. ⊤ };
+
+    ghost means = { keyed_meaning };
+
+    /// Takes the next piece of the feed. It writes what the lines that end in it make final, and reports the bad ones of them by their
+    /// numbers in the whole feed. `BadLine` comes if one of them is bad and the run is strict. `TooManyKeys` comes if one has a new key and
+    /// there are as many as there may be. Then what the lines before it make final is written.
+    fn feed<P: Port, E: Sink>(
+        &mut self,
+        alloc: Global,
+        piece: &[u8],
+        port: &mut P,
+        err: &mut E,
+    ) -> Result<(), Stop> {
+        self.lines.output.clear();
+        let taken = self.take_piece(alloc, piece, err);
+        if is_lost(taken) {
+            return taken;
+        }
+        port.write(&self.lines.output)?;
+        taken
+    }
 
     /// Reports bytes at the end of the feed that are no line, since their LF is missing. `BadLine` comes exactly if there are some and the
     /// run is strict.
-    pub fn end<E: Sink>(&self, err: &mut E) -> Result<(), Stop>
-        requires lines { (n : ℕ) → E.takes err.old n }
-        ensures reports { (recipe : KeyRecipe) (bytes : List ℕ) → IsKeyedLiveOf self.now recipe bytes
-            → Reported E.tells E.written E.faults err.old err.new (end_report bytes) }
-        ensures stops { (recipe : KeyRecipe) (bytes : List ℕ) → IsKeyedLiveOf self.now recipe bytes
-            → MatchResult result (λ _. (recipe.strict && is_unfinished bytes) ≡ false)
-            (λ stop. (stop ≡ Stop.BadLine) × ((recipe.strict && is_unfinished bytes) ≡ true)) }
-        ensures takes { (n : ℕ) → E.takes err.new n }
-    {
+    fn end_feed<E: Sink>(&self, err: &mut E) -> Result<(), Stop> {
         if self.pending.is_empty() {
             return Ok(());
         }

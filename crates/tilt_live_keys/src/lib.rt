@@ -5,7 +5,7 @@
 //! key before them. Bad lines are reported by their numbers in the whole feed.
 //!
 //! `IsKeyedLiveOf run recipe bytes` of `specs/Runs` says that `run` is the run of a recipe after these bytes. The clauses of
-//! `KeyedLive::take` say that after a piece it is the run after the bytes with the piece (`goes_on`). They also say that exactly what
+//! `FeedRun` say that after a piece it is the run after the bytes with the piece (`goes_on`). They also say that exactly what
 //! `specs/Output` says was written (`adds`), that exactly the bad lines were reported (`reports`), and when the run stops (`stops`). The
 //! clauses of `keys_are_alone` are the law that each key has the output of a run that has only the lines of the key.
 #![tactic(auto)]
@@ -17,9 +17,7 @@ mod keyed_lines;
 mod keyed_live;
 mod law;
 mod report;
-mod stop;
 
 pub use key_recipe::KeyRecipe;
 pub use keyed_live::KeyedLive;
 pub use law::keys_are_alone;
-pub use stop::Stop;

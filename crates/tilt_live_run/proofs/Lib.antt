@@ -1,6 +1,7 @@
 pub mod Adding
 pub mod Baring
 pub mod Beginning
+pub mod Feeding
 pub mod KeepingRows
 pub mod Leaving
 pub mod Lines

@@ -9,7 +9,7 @@ use Rattle.tilt_feed_form.specs.Said.{FeedState, TextKept, after_line, ends, lin
 use Rattle.tilt_feed_form.specs.declared.bad_feed_line.BadFeedLine.{BadFeedLine}
 use Rattle.tilt_live_run.proofs.Reporting.{reports-whole}
 use Rattle.tilt_live_run.specs.Output.{begun_news, begun_start, news}
-use Rattle.tilt_live_run.specs.Reported.{Reported}
+use Rattle.tilt_serving.specs.Reported.{Reported}
 use Rattle.tilt_live_run.specs.Taken.{HasTakenLine}
 use Rattle.tilt_live_run.specs.declared.display.Display.{Display}
 use Rattle.tilt_live_run.specs.declared.run_options.RunOptions.{RunOptions}

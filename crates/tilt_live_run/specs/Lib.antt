@@ -1,5 +1,6 @@
 pub mod Adds
 pub mod Bare
+pub mod Feeds
 pub mod Joined
 pub mod KeptRows
 pub mod Leaves

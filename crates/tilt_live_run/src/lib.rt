@@ -24,6 +24,7 @@ mod left;
 mod line_run;
 mod live_run;
 mod place;
+mod query_feed;
 mod run_options;
 mod shown;
 mod state_rows;

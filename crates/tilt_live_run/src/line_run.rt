@@ -17,7 +17,7 @@ ghost use Rattle.tilt_live_run.specs.Left.{each_left, inputs_left, keeps_state, 
 ghost use Rattle.tilt_live_run.specs.Left.{readings_kept, watermark_options};
 ghost use Rattle.tilt_live_run.specs.Leaves.{AreResumable, Belongs, IsLeftOf};
 ghost use Rattle.tilt_live_run.specs.Output.{begun_news, begun_start, first_news};
-ghost use Rattle.tilt_live_run.specs.Reported.{Reported};
+ghost use Rattle.tilt_serving.specs.Reported.{Reported};
 ghost use Rattle.tilt_live_run.specs.Runs.{IsLineRunOf};
 ghost use Rattle.tilt_live_run.specs.Taken.{HasTakenLine};
 ghost use Rattle.tilt_live_run.specs.declared.run_options.RunOptions.{RunOptions};

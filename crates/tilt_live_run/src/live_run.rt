@@ -7,7 +7,8 @@ ghost use Rattle.tilt_feed_text.specs.Split.{ended};
 ghost use Rattle.tilt_live_run.specs.Adds.{Adds};
 ghost use Rattle.tilt_live_run.specs.Left.{KeepsState, keeps_state, state_left};
 ghost use Rattle.tilt_live_run.specs.Output.{first_news};
-ghost use Rattle.tilt_live_run.specs.Reported.{Reported, Reports};
+ghost use Rattle.tilt_live_run.specs.Reported.{Reports};
+ghost use Rattle.tilt_serving.specs.Reported.{Reported};
 ghost use Rattle.tilt_live_run.specs.Runs.{IsPlaced, IsRunAfter, IsRunOf, IsSound, added, end_report, is_stopped};
 ghost use Rattle.tilt_live_run.specs.Runs.{is_unfinished, reported};
 ghost use Rattle.tilt_live_run.specs.Stepped.{HasStepped, HasTaken, is_lost};
@@ -244,6 +245,7 @@ impl LiveRun {
         ensures stops { (accepted : AcceptedParts) (options : RunOptions) (bytes : List ℕ) → IsRunOf self.now accepted options bytes
             → MatchResult result (λ _. (options.strict && is_unfinished bytes) ≡ false)
             (λ stop. (stop ≡ Stop.BadLine) × ((options.strict && is_unfinished bytes) ≡ true)) }
+        ensures only { IfErr result (λ stop. stop ≡ Stop.BadLine) }
         ensures takes { (n : ℕ) → E.takes err.new n }
     {
         if self.pending.is_empty() {

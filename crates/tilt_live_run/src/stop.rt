@@ -3,6 +3,7 @@ ghost use Rattle.std.specs.Prelude.{◌≡◌};
 use std::alloc::AllocError;
 use thiserror::Error;
 use tilt_outside::Failed;
+use tilt_serving::Halt;
 
 /// Why a run stops.
 #[derive(Clone, Copy, Debug, PartialEq, Eq, Error)]
@@ -35,5 +36,20 @@ impl From<Failed> for Stop {
 
     fn from(_: Failed) -> Self {
         Stop::WriteFault
+    }
+}
+
+impl From<Stop> for Halt {
+    ghost use Rattle.tilt_live_run.specs.Feeds.{feed_stop};
+    ghost use Rattle.tilt_serving.specs.Stops.{halt_of};
+
+    ghost from_gives = { λ stop halt. halt ≡ halt_of (feed_stop stop) };
+
+    fn from(stop: Stop) -> Self {
+        match stop {
+            Stop::BadLine => Halt::BadLine,
+            Stop::WriteFault => Halt::WriteFault,
+            Stop::OutOfMemory => Halt::OutOfMemory,
+        }
     }
 }

@@ -2,8 +2,8 @@
 //!
 //! `Port` is the trait. The code above it is generic, and a clause of it can say what had been written at each moment at which more was
 //! read: its `transcript` has these moments. `StdPort` is made of a reader and a writer of the standard library, and says nothing of what
-//! goes through them. `MemPort` keeps all of it in memory, and fails at the calls that it is given. `BufferPort` keeps what is written to it.
-//! `proofs/Writing` has lemmas that compose writes.
+//! goes through them. `MemPort` keeps all of it in memory, and fails at the calls that it is given. `BufferPort` keeps what is
+//! written to it. `proofs/Writing` has lemmas that compose writes.
 #![tactic(auto)]
 
 mod asked;

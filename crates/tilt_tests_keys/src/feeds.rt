@@ -3,11 +3,12 @@
 use std::alloc::Global;
 use std::test::Fail;
 use tilt_compiler::accept;
-use tilt_live_keys::{KeyRecipe, KeyedLive, Stop};
+use tilt_live_keys::{KeyRecipe, KeyedLive};
 use tilt_live_run::Display;
 use tilt_outside::MemSink;
 use tilt_port::MemPort;
 use tilt_row_text::{RowStyle, Times};
+use tilt_serving::{FeedRun, Stop};
 use tilt_testing::core_of;
 use tilt_watermarks::Options;
 
@@ -43,9 +44,9 @@ fn take_pieces(
     err: &mut MemSink,
 ) -> Result<(), Stop> {
     let mut run = KeyedLive::start(alloc, recipe, port)?;
-    run.take(alloc, pieces.0, port, err)?;
-    run.take(alloc, pieces.1, port, err)?;
-    run.end(err)
+    run.feed(alloc, pieces.0, port, err)?;
+    run.feed(alloc, pieces.1, port, err)?;
+    run.end_feed(err)
 }
 
 // A header, a row of each key, a line of every key that is known up to tick 25, and so a late row. Then come a blank line, a line that is

@@ -42,7 +42,7 @@ returns-in-None-clause-is g c =
       from = job.from;
       goes_on = c.in-Ok.ensures.goes_on;
     })
-    c.in-Ok-serve.served.run job.accepted refl c.in-Ok-serve.ensures.handed_on c.in-Ok-serve.ensures.served (ap file_bytes c.in-None.is)
+    c.in-Ok-serve.served.run job.accepted refl (c.in-Ok-serve.ensures.handed_on refl) c.in-Ok-serve.ensures.served (ap file_bytes c.in-None.is)
 
 pub save-requires-clause-keeps : goal.save-requires-clause-keeps
 save-requires-clause-keeps g c =
@@ -71,7 +71,7 @@ returns-in-Some-clause-is g c =
       from = job.from;
       goes_on = c.in-Ok.ensures.goes_on;
     })
-    served.run job.accepted refl c.in-Ok-serve.ensures.handed_on c.in-Ok-serve.ensures.served c.in-Ok.ensures.accepted.0 c.in-Ok.ensures.accepted.1 job.opening.items c.in-Ok.ensures.opening
+    served.run job.accepted refl (c.in-Ok-serve.ensures.handed_on refl) c.in-Ok-serve.ensures.served c.in-Ok.ensures.accepted.0 c.in-Ok.ensures.accepted.1 job.opening.items c.in-Ok.ensures.opening
     served.written c.in-Ok-serve.ensures.written name (ap file_bytes c.in-Some.is ∙ ap Some (sym c.as_str.ensures.value)) c.save.result
     (rw (c.in-Ok-serve.ensures.query, c.in-Ok-serve.ensures.opening) at (kept-first g.S.Shelf.tells g.S.Shelf.files g.S.Shelf.read_faults g.S.Shelf.save_faults g.S.Shelf.takes c.args.shelf.now
     c.load_job.new.shelf c.save.new.shelf c.in-Ok.ensures.rest served.run served.query served.opening.items served.written name c.save.result c.save.ensures.kept))

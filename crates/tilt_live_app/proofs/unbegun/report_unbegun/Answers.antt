@@ -1,4 +1,4 @@
-use Rattle.tilt_live_run.proofs.Reporting.{reported-put}
+use Rattle.tilt_serving.proofs.Reporting.{reported-put}
 use Rattle.tilt_live_app.proofs.unbegun.report_unbegun.Goals as goal
 
 pub returns-in-NoInput-clause-line : goal.returns-in-NoInput-clause-line

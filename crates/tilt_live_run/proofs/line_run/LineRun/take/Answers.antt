@@ -6,8 +6,8 @@ use Rattle.tilt_input_state.specs.Resume.{first_read}
 use Rattle.tilt_live.specs.Lives.{tick_of_live}
 use Rattle.tilt_live_run.proofs.Lines.{bad-stops, line-stopped, line-taken}
 use Rattle.tilt_live_run.proofs.Pieces.{line-refused}
-use Rattle.tilt_live_run.proofs.Reporting.{reported-none}
-use Rattle.tilt_live_run.specs.Reported.{Reported}
+use Rattle.tilt_serving.proofs.Reporting.{reported-none}
+use Rattle.tilt_serving.specs.Reported.{Reported}
 use Rattle.tilt_live_run.proofs.line_run.LineRun.take.Goals.{in-Some+in_ok-report_bad, in_default}
 use Rattle.tilt_live_run.proofs.line_run.LineRun.take.Goals as goal
 

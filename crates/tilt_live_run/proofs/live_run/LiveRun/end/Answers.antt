@@ -1,7 +1,7 @@
 use Rattle.std.proofs.Common.{◌≡◌, ◌∙◌, sym, length, vec_len, rules}
 use Rattle.std.proofs.Math.Bool.{and-false}
 use Rattle.tilt_feed_text.specs.Split.{unfinished}
-use Rattle.tilt_live_run.proofs.Reporting.{reported-none}
+use Rattle.tilt_serving.proofs.Reporting.{reported-none}
 use Rattle.tilt_live_run.proofs.Running.{none-kept, some-kept, strict-same}
 use Rattle.tilt_live_run.proofs.live_run.LiveRun.end.Goals as goal
 

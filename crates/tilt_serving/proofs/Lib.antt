@@ -1,0 +1,3 @@
+pub mod Feeding
+pub mod Flushing
+pub mod Reporting
