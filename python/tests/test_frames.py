@@ -12,16 +12,17 @@ import pytest
 
 pandas = pytest.importorskip("pandas")
 
-from conftest import PROGRAM
+from conftest import LIVE, PROGRAM
 import tilt_data
-from tilt_data import Convention, Query, Refused, TiltError, run, sessions, span
+from tilt_data import Convention, Query, Refused, TiltError, frames, run, span
 
 AVERAGE = "input temp; emit avg(temp[t-600:t]) over (0, 3600] every 600;"
 
 
 @pytest.fixture(autouse=True)
-def the_program(tilt, monkeypatch):
-    monkeypatch.setenv("TILT", str(PROGRAM))
+def the_program(tilt, live, monkeypatch):
+    monkeypatch.setenv("TILT", tilt)
+    monkeypatch.setenv("TILT_LIVE", live)
 
 
 def readings(count: int = 60, seed: int = 11, zone: str | None = None):
@@ -465,10 +466,10 @@ def faulty(folder: pathlib.Path, monkeypatch: pytest.MonkeyPatch) -> pathlib.Pat
     """A file: while it is there the program ends with the status that stands in it, after all was printed and saved."""
     stop, program = folder / "stop", folder / "program"
     program.write_text(
-        f'#!/bin/sh\n"{PROGRAM}" "$@" || exit\n[ ! -e "{stop}" ] || {{ echo "tilt: 7 out of memory" >&2; exit $(cat "{stop}"); }}\n'
+        f'#!/bin/sh\n"{LIVE}" "$@" || exit\n[ ! -e "{stop}" ] || {{ echo "tilt: 7 out of memory" >&2; exit $(cat "{stop}"); }}\n'
     )
     program.chmod(0o755)
-    monkeypatch.setenv("TILT", str(program))
+    monkeypatch.setenv("TILT_LIVE", str(program))
     return stop
 
 
@@ -506,20 +507,22 @@ def test_a_program_that_isnt_there_is_told_in_a_line_and_loses_nothing(tmp_path,
     temp = readings(60)
     with Query(PUSHED).live(**COMMON) as live:
         monkeypatch.setenv("TILT", str(tmp_path / "nowhere"))
+        monkeypatch.setenv("TILT_LIVE", str(tmp_path / "nowhere"))
         for call in (lambda: live.push(temp.iloc[:30]), lambda: run(PUSHED, temp, **COMMON)):
             with pytest.raises(Refused, match="^the program can't be run: No such file or directory$"):
                 call()
         monkeypatch.setenv("TILT", str(PROGRAM))
+        monkeypatch.setenv("TILT_LIVE", str(LIVE))
         parts = [live.push(temp.iloc[30:]), live.end()]
     assert joined(parts) == joined([run(PUSHED, temp, **COMMON)])
 
 
 def test_rows_that_cant_be_written_are_told_in_a_line(tmp_path):
     with pytest.raises(Refused, match="nowhere/rows.x.csv: it can't be written: No such file or directory$"):
-        sessions.put_rows(str(tmp_path / "nowhere"), "x", [b"0,5,7\n"])
+        frames.put_rows(str(tmp_path / "nowhere"), "x", [b"0,5,7\n"])
     (tmp_path / "rows.x.csv").symlink_to("/dev/full")
     with pytest.raises(Refused, match="rows.x.csv: it can't be written: No space left on device$"):
-        sessions.put_rows(str(tmp_path), "x", [b"0,5,7\n"])
+        frames.put_rows(str(tmp_path), "x", [b"0,5,7\n"])
 
 
 def intervals(*minutes: tuple[int, int]):
@@ -572,7 +575,7 @@ def test_an_input_that_is_ahead_has_no_rows_that_wait():
     temp, limit = readings(60), readings(60, seed=5)
     with Query(query).live(**COMMON) as live:
         parts = [live.push(temp=temp, limit=limit.iloc[:2])]
-        assert all(not rows for rows in live.taken.rows.values())
+        assert not live.taken.lines
         parts += [live.push(limit=limit.iloc[at : at + 7]) for at in range(2, 60, 7)]
         parts.append(live.end())
     assert joined(parts) == joined([run(query, inputs={"temp": temp, "limit": limit}, **COMMON)])

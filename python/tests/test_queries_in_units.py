@@ -23,7 +23,8 @@ from tilt_data.unit_table import definition_scales
 from tilt_data.units import Checked, Known, Overflow, checked, in_units, known_of
 
 Says = Callable[[str, str], None]
-SCRIPT = """#!/bin/sh
+SCRIPT = f"""#!/bin/sh
+case " $* " in *" --save "* | *" --resume "*) exec {LIVE} "$@" ;; esac
 cat "$0.report"
 case $(grep -o '^overflow' "$0.report") in overflow) echo 'tilt: 120 overflow' >&2; exit 1; esac
 if [ -e "$0.fault" ]; then cat "$0.fault" >&2; exit 1; fi
@@ -448,15 +449,15 @@ def test_a_scale_by_the_data_has_room_for_the_numbers_of_the_query(tilt, says, m
     assert asked == [1, 100, 10]
 
 
-def test_a_run_by_sessions_is_in_units(tilt, says, monkeypatch):
+def test_a_live_run_is_in_units(tilt, live, says, monkeypatch):
     pandas = pytest.importorskip("pandas")
     from tilt_data import Query
 
     monkeypatch.setenv("TILT", tilt)
     says("scale x 10\ndecimals 2\nrate x 1 1\nbound x 0 0\nbound emit 0 0\nquery\ninput x;\nemit x * 5 over (0, 9];\n")
     data = pandas.Series([2.5, 0.1], pandas.date_range("2026-03-01", periods=2, freq="1s"))
-    with Query("input x; emit x * 0.5 over (0, 9];").live(origin="2026-03-01", scale=10) as live:
-        assert [value for part in (live.push(data), live.end()) for value in part["value"]] == [1.25, 0.05]
+    with Query("input x; emit x * 0.5 over (0, 9];").live(origin="2026-03-01", scale=10) as begun:
+        assert [value for part in (begun.push(data), begun.end()) for value in part["value"]] == [1.25, 0.05]
 
 
 def test_a_query_in_units_is_explained_as_it_is(tilt, says, monkeypatch):

@@ -10,7 +10,8 @@ from typing import TYPE_CHECKING, Any
 if TYPE_CHECKING:
     from .convention import Convention
     from .errors import Refused, TiltError
-    from .frames import Live, Query, run, series, span
+    from .frames import Query, run, series, span
+    from .live import Live
     from .plotting import plot
     from .program import Explained
     from .scaling import Scaled, scale
@@ -19,7 +20,7 @@ if TYPE_CHECKING:
 __all__ = ["Convention", "Explained", "Live", "Query", "Refused", "Scaled", "TiltError", "__version__"]
 __all__ += ["plot", "run", "scale", "series", "span"]
 # The module of each name.
-PLACES = {"Convention": "convention", "Explained": "program", "Live": "frames", "Query": "frames", "Refused": "errors", "Scaled": "scaling"}
+PLACES = {"Convention": "convention", "Explained": "program", "Live": "live", "Query": "frames", "Refused": "errors", "Scaled": "scaling"}
 PLACES |= {"TiltError": "errors", "__version__": "version", "plot": "plotting", "run": "frames", "scale": "scaling", "series": "frames"}
 PLACES |= {"span": "frames"}
 

@@ -26,9 +26,8 @@ from .errors import Refused, note, printable
 from .files import failing_at, locked, standard_input, sync, writing
 from .grammar import inputs_in
 from .program import call, program
-from .sessions import check
 from .version import VERSION
-from .why import text_of
+from .why import check, text_of
 
 HELP = """Runs a query over lines that keep coming on standard input, such as from `mosquitto_sub`, or in a file. A line is as for
 `tilt-live`, NAME,start,end,value with ticks, or with --tick a reading NAME,time,value. Each row is printed as soon as it is final, and is

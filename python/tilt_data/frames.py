@@ -8,28 +8,30 @@ import contextlib
 import dataclasses
 import functools
 import os
-import pathlib
 import re
 import sys
 import warnings
-from typing import TYPE_CHECKING, Any, Callable, Iterator, Literal, Mapping, Union, Unpack, get_args
+from typing import TYPE_CHECKING, Any, Callable, Iterable, Iterator, Literal, Mapping, Union, Unpack, get_args
 
-from . import sessions
+from . import program
 from .clock import TIMES, Clock, duration_of, duration_text, moment_text
 from .convention import Convention, Options, check_flag, check_one_of, convention_of, moment_read
 from .convert import Converter
 from .errors import Refused, TiltError
-from .files import HEADER_LINE, Notes, Outputs, check_replaceable, notes_of, notes_path, reading, safe, scratch
+from .files import HEADER_LINE, Notes, Outputs, check_replaceable, failing_at, notes_of, notes_path, reading, safe, scratch
 from .keys import APART, Alone, Batches, readings_by_key
 from .over import Extent, Over, cut_note, edges_of, over_of
-from .program import REFUSALS, Explained
+from .program import Explained
 from .rows import RowArrays, arrays_in, beyond, fits, marks_in, output_of, rows_pushed
 from .tokens import decimals_in, without_points
 from .units import Checked, Known, Units, counted, longest_window, noted, overflow_of
 from .whole import digits_in, whole_numbers
+from .why import check
 
 if TYPE_CHECKING:
     import pandas
+
+    from .live import Live
 
     Input = Union[pandas.Series, str, os.PathLike[str]]
 
@@ -83,7 +85,13 @@ class Query:
     def explained(self) -> Explained:
         with scratch() as folder:
             plain = without_points(self.text.encode()).decode()
-            return sessions.explained(self.put(folder), self.put(folder, plain, "plain.tilt"), self.name)
+            return self.explained_by(self.put(folder), self.put(folder, plain, "plain.tilt"))
+
+    def explained_by(self, query: str, plain: str) -> Explained:
+        """What `tilt explain` prints of the query in a file, given one with its text without points."""
+        called = program.call(["explain", plain])
+        check(called, ["explain", query], self.name)
+        return Explained.of(called.printed.decode())
 
     def explain(self, is_whole: bool = False) -> Explained:
         """How far it looks and which loops it has; a query that is refused raises a TiltError with the place. One over whole numbers has no
@@ -92,7 +100,7 @@ class Query:
             return self.explained
         with scratch() as folder:
             path = self.put(folder)
-            return sessions.explained(path, path, self.name)
+            return self.explained_by(path, path)
 
     def put(self, folder: str, text: str | None = None, name: str = "query.tilt") -> str:
         """Writes the query, or a text in its place, to a folder: the path."""
@@ -130,7 +138,7 @@ class Query:
             own, files, extents = over_of(whole.query), dict(inputs.files), dict[str, Extent]()
             for name, parts in inputs.rows():
                 extents[name] = Extent(own)
-                files[name] = sessions.put_rows(folder, name, extents[name].texts(parts))
+                files[name] = put_rows(folder, name, extents[name].texts(parts))
             text, start, end = over_in(whole.query, own, extents, files, look.over)
             self.warn_of_overflow(inputs, extents, inputs.rows, look.whole)
             rows = self.rows_of_run(folder, text, {name: files[name] for name in self.inputs})
@@ -138,8 +146,9 @@ class Query:
 
     def rows_of_run(self, folder: str, text: str, files: dict[str, str]) -> RowArrays:
         """What the program prints for the query with this text over these files; its own are in the folder."""
-        path, out = self.put(folder, text), os.path.join(folder, "out.csv")
-        sessions.session(path, None, files, None, "", out, self.name)
+        out, words = os.path.join(folder, "out.csv"), ["run", self.put(folder, text), *(f"{name}={file}" for name, file in files.items())]
+        with failing_at(out), open(out, "wb") as file:
+            check(program.call(words, file), words, self.name)
         return output_of(out)
 
     def by_key(self, data: Any, by: str, look: Look, convention: Convention, named: dict[str, Any]) -> pandas.DataFrame:
@@ -205,7 +214,7 @@ class Query:
         return shape.keyed(keys, [output.moved(shift) for output, shift in zip(outputs, shifts)], look)
 
     def run_over(self, folder: str, own: Over, text: str, rows: dict[str, RowArrays], over: tuple[int, int]) -> RowArrays:
-        files = {name: sessions.put_rows(folder, name, (part.text() for part in one.blocks())) for name, one in rows.items()}
+        files = {name: put_rows(folder, name, (part.text() for part in one.blocks())) for name, one in rows.items()}
         return self.rows_of_run(folder, own.moved(text, *over), files)
 
     def warn_of_overflow(self, inputs: Inputs, extents: Mapping[str, Extent], rows: Callable[[], Rows], is_whole: bool) -> None:
@@ -228,9 +237,12 @@ class Query:
             overflow = overflow_of(self.put(folder), scales, known, exactly)
         warn(None if overflow is None else str(overflow))
 
-    def live(self, convention: Convention | None = None, **options: Unpack[Options]) -> Live:
-        """A run by sessions, which takes rows as they come."""
-        return Live(self, convention_of(convention, options))
+    def live(self, convention: Convention | None = None, *, state: bytes | None = None, **options: Unpack[Options]) -> Live:
+        """A run that takes readings or rows as they come, by the arguments of `run` about readings; `origin` and `scale` are needed. With
+        what `Live.state` returned it goes on from there."""
+        from .live import Live
+
+        return Live(self, convention_of(convention, options, ("convention", "state")), state)
 
 
 def run(query: str | os.PathLike[str] | Query, data: Any = None, **options: Unpack[RunOptions]) -> pandas.DataFrame:
@@ -311,6 +323,15 @@ def write_series(outputs: Outputs, named: dict[str, Any], paths: Mapping[str, st
 
 
 # Inputs
+
+
+def put_rows(folder: str, name: str, texts: Iterable[bytes]) -> str:
+    """Writes the lines of an input's rows to a series file: its path."""
+    path = os.path.join(folder, f"rows.{name}.csv")
+    with failing_at(path), open(path, "wb") as file:
+        file.write(HEADER_LINE)
+        file.writelines(texts)
+    return path
 
 
 def over_in(text: str, own: Over, extents: dict[str, Extent], files: dict[str, str], over: Range | None) -> tuple[str, int, int]:
@@ -685,134 +706,3 @@ def rows_of_intervals(name: str, index: Any, clock: Clock, values: Any, known: A
             raise beyond(name)
         raise Refused(f"the input {name}: the interval end {moment_text(moment, 9)} isn't on a tick: a shorter tick")
     return RowArrays(starts.astype("i8"), stops.astype("i8"), values, known)
-
-
-# Sessions
-
-
-@dataclasses.dataclass
-class Taken:
-    """What was pushed, of each input: the reading that is held back, the rows that no session was given yet, and the tick up to which it is
-    known. The zone is that of the first readings, which the output has too."""
-
-    converters: dict[str, Converter]
-    rows: dict[str, list[RowArrays]]
-    reached: dict[str, int]
-    zone: Any = None
-    zoned: bool = False
-
-    def copy(self) -> Taken:
-        converters = {name: dataclasses.replace(converter) for name, converter in self.converters.items()}
-        rows = {name: list(parts) for name, parts in self.rows.items()}
-        return dataclasses.replace(self, converters=converters, rows=rows, reached=dict(self.reached))
-
-
-class Live:
-    """A run by sessions. Each `push` takes the readings or rows that came, and gives the rows of the output that are decided by them; `end`
-    gives the rest. The outputs are together what one run over all prints."""
-
-    def __init__(self, query: Query, convention: Convention) -> None:
-        if convention.origin is None or any(convention.scale_of(name) is None for name in query.inputs):
-            raise Refused("a run by sessions needs its origin and its scale beforehand: origin='2026-03-01', scale=10")
-        convention.check_names(query.inputs)
-        self.query, self.convention = query, convention
-        self.clock = clock_of({}, {}, convention)
-        self.scales = {name: convention.scale_of(name) or 1 for name in query.inputs}
-        self.whole = query.over_whole(Inputs(convention, self.clock, {}, {}, self.scales, []))
-        converters = {name: Converter(self.clock, convention.rule(name, self.clock)) for name in query.inputs}
-        self.taken = Taken(converters, {name: [] for name in query.inputs}, {})
-        self.done: int | None = None
-        self.folder = scratch()
-
-    def __enter__(self) -> Live:
-        return self
-
-    def __exit__(self, *_: object) -> None:
-        self.folder.cleanup()
-
-    def push(self, data: Any = None, **inputs: Any) -> pandas.DataFrame:
-        """Takes more readings, and goes on to the last moment that all inputs have reached. A push that is refused takes nothing. Where the
-        program ends by a fault, as of a full disk, what was pushed is kept, and the next push gives its rows too; that one may be without
-        readings."""
-        before, taken = self.taken, self.going().copy()
-        for name, series in {**frame_inputs(data, self.query.inputs), **inputs}.items():
-            if name not in taken.rows:
-                raise Refused(f"the query reads {', '.join(self.query.inputs)}: not {name}")
-            self.take(taken, name, series)
-        self.taken = taken
-        cut = min(taken.reached.values(), default=0)
-        is_behind = not taken.reached or len(taken.reached) < len(taken.rows)
-        if is_behind or self.done is not None and cut <= self.done:
-            return self.frame(RowArrays.of([]))
-        try:
-            return self.frame(self.session(taken, cut))
-        except TiltError as error:
-            if error.status in REFUSALS:
-                self.taken = before
-            raise
-
-    def going(self) -> Taken:
-        if not os.path.isdir(self.folder.name):
-            raise Refused("the run by sessions has ended")
-        return self.taken
-
-    def take(self, taken: Taken, name: str, series: Any) -> None:
-        import pandas
-
-        if not isinstance(series, pandas.Series):
-            raise Refused(f"the input {name}: a Series was expected, not {type(series).__name__}")
-        if not taken.zoned and (len(series) or zone_in(series.index) is not None):
-            taken.zone, taken.zoned = zone_in(series.index), True
-        values, known = whole_numbers(name, series, self.scales[name])
-        if isinstance(series.index, pandas.IntervalIndex):
-            rows = rows_of_intervals(name, series.index, self.clock, values, known)
-            self.check_order(name, rows, taken.reached.get(name))
-            taken.reached |= {name: int(rows.ends[-1])} if len(rows) else {}
-            taken.rows[name].append(rows)
-            return
-        converter = taken.converters[name]
-        moments = moments_of(series.index, f"the input {name}")
-        taken.rows[name] += rows_of_some(name, converter, self.convention, moments, values, known)
-        taken.reached |= {} if converter.moment is None else {name: converter.start}
-
-    def check_order(self, name: str, rows: RowArrays, before: int | None) -> None:
-        """Rejects rows that aren't in order: a session that fails for them would take nothing of any input."""
-        import numpy
-
-        first = rows.starts[:1] if before is None else numpy.array([before])
-        wrong = (rows.starts >= rows.ends) | (rows.starts < numpy.concatenate([first, rows.ends])[: len(rows)])
-        if wrong.any():
-            at = moment_text(self.clock.moment(int(rows.starts[wrong.argmax()])), 9)
-            raise Refused(f"the input {name}: the interval at {at} is empty, or begins before the one before it ends: sort_index()")
-
-    def frame(self, rows: RowArrays) -> pandas.DataFrame:
-        return Shape(self.clock, self.taken.zone, int(10**self.whole.decimals)).frame(rows)
-
-    def session(self, taken: Taken, cut: int | None) -> RowArrays:
-        """A session up to what each input has reached, the least of which is the cut, or the last one; the rows that it prints. Nothing is
-        changed before it has come to its end."""
-        out, state, new = (os.path.join(self.folder.name, name) for name in ("out", "state", "state.new"))
-        paths = {name: sessions.put_rows(self.folder.name, name, (part.text() for part in parts)) for name, parts in taken.rows.items()}
-        sessions.session(
-            self.query.put(self.folder.name, self.whole.query),
-            None if self.done is None else state,
-            paths,
-            None if cut is None else taken.reached,
-            new,
-            out,
-        )
-        lines = pathlib.Path(out).read_text().splitlines()[self.done is None :]
-        rows = RowArrays.of((int(start), int(end), int(value)) for start, end, value in (line.split(",") for line in lines))
-        if cut is not None:
-            os.replace(new, state)
-        self.taken, self.done = dataclasses.replace(taken, rows={name: [] for name in taken.rows}), cut
-        return rows
-
-    def end(self) -> pandas.DataFrame:
-        """The last session, over what is left. Where it fails nothing is changed, and it may be called again."""
-        taken = self.going().copy()
-        for name, converter in taken.converters.items():
-            taken.rows[name].append(final_row(name, converter, self.convention))
-        frame = self.frame(self.session(taken, None))
-        self.folder.cleanup()
-        return frame

@@ -17,9 +17,8 @@ from .files import Row, Stale, notes_of, rows_in, scratch
 from .forms import walk
 from .grammar import inputs_in, statements_of
 from .scales import decimal_text, factors
-from .sessions import check
 from .tokens import DECIMAL, without_points
-from .why import Reads, text_of
+from .why import Reads, check, text_of
 
 # The largest scale that the program takes.
 LARGEST_SCALE = 2**63 - 1

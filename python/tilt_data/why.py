@@ -12,10 +12,11 @@ import os
 import re
 from typing import Callable, Iterable, Iterator, Mapping, TypeVar
 
-from .errors import Refused, printable
+from .errors import Refused, TiltError, printable
 from .files import Notes, Stale, notes_of
 from .forms import fault_of
 from .grammar import inputs_in
+from .program import Called
 from .tokens import DECIMAL, Faulty, place, place_of, without_points
 
 SERIES_LINE = re.compile(r"(1[0-7]) series (\S+): (.*)")
@@ -194,6 +195,18 @@ def refusal_of(told: str, words: list[str]) -> Refusal | None:
     if line.startswith("2 input names: "):
         return names_refusal(query, line[len("2 input names: ") :], words)
     return fault_refusal(line[len("4 read fault: ") :]) if line.startswith("4 read fault: ") else None
+
+
+def check(called: Called, words: list[str], name: str | None = None) -> None:
+    """What the program rejects is an error that carries its line, its status and the place. It names the query as the caller knows it."""
+    if called.status < 0:
+        raise TiltError(f"the program was ended by signal {-called.status}", 128 - called.status)
+    if called.status:
+        line = called.told.rstrip("\n")
+        place = refusal_of(line, words[1:])
+        if place is not None and name is not None and place.file == words[1]:
+            place = dataclasses.replace(place, file=name)
+        raise TiltError(line, called.status, place)
 
 
 def clashes_of(files: Mapping[str, str], is_whole: bool = True, read: Reads = notes_of) -> str | None:
