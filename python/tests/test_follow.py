@@ -51,9 +51,17 @@ def simple(folder: pathlib.Path, query: str = "input x; emit x over (0, 40000000
     (folder / "q").write_text(query)
 
 
+def bounds_for(query: pathlib.Path) -> list[str]:
+    """The values of inputs, within which no result of the queries here leaves 64 bits. Without them a line says that such results aren't
+    counted."""
+    names = re.findall(r"input (\w+);", query.read_text()) if query.is_file() else []
+    return ["--bounds", ",".join(f"{name}=-1000:1000" for name in names)] if names else []
+
+
 def follow(folder: pathlib.Path, *words: str, **streams) -> subprocess.Popen[bytes]:
     pipes = {"stdin": subprocess.PIPE, "stdout": subprocess.PIPE, "stderr": subprocess.PIPE, **streams}
-    return forked(["follow", "q", *words], BEGUN, cwd=folder, start_new_session=True, **pipes)
+    bounds = [] if {"--bounds", "--whole"} & set(words) else bounds_for(folder / "q")
+    return forked(["follow", "q", *words, *bounds], BEGUN, cwd=folder, start_new_session=True, **pipes)
 
 
 def done(process: subprocess.Popen[bytes], given: str | bytes = b"") -> tuple[int, str, str]:
@@ -121,6 +129,16 @@ def test_rows_are_printed_while_lines_come(tilt, live, tmp_path):
         process.stdin.flush()
         assert [process.stdout.readline() for _ in wanted] == wanted
     assert done(process) == (0, "", "")
+
+
+def test_a_line_says_that_results_are_not_counted_if_they_can_leave_64_bits(tilt, live, tmp_path):
+    simple(tmp_path, "input x; emit x + x over (0, 20];")
+    rows, told = "start,end,value\n0,5,6\n", "tilt: 122 results that leave 64 bits aren't counted\n"
+    words = [["--whole"], ["--bounds", "x=-4611686018427387904:4611686018427387903"], ["--bounds", "x=0:4611686018427387904"]]
+    for folder, given, err in zip("abc", words, ("", "", told)):
+        assert done(follow(tmp_path, "--state", folder, "--end", *given), "x,0,5,3\n") == (0, rows, err)
+    status, out, err = followed(tmp_path, "", "--whole", "--bounds", "x=0:1")
+    assert (status, out, err) == (1, "", "tilt-data: --bounds: it is for queries in units, so leave out --whole\n")
 
 
 def test_a_last_line_without_an_end_is_not_taken(tilt, live, tmp_path):
@@ -652,7 +670,7 @@ def test_a_feed_that_has_no_room_is_told_and_nothing_is_lost(tilt, live, tmp_pat
     (tmp_path / "log").write_text("".join(lines))
     assert len("".join(lines)) > 5 * 4000
     full = subprocess.run(
-        [*COMMAND, "--log", "log"],
+        [*COMMAND, "--log", "log", *bounds_for(tmp_path / "q")],
         cwd=tmp_path,
         env={**BEGUN, "PYTHONDONTWRITEBYTECODE": "1"},
         capture_output=True,

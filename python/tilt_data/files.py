@@ -36,6 +36,8 @@ PLACED = ".tilt-data-new"
 BESIDE = ".tilt-data"
 # The longest name, in bytes, that a file beside it takes over whole: what is added has less than the other 55 of 255.
 LONGEST_NAME = 200
+# How long to wait for the lock of a folder, in seconds.
+LOCK_WAIT = 1.0
 # How many bytes of a file are copied at once.
 AT_ONCE = 1 << 26
 # How many files are brought to the disk at the same time, so that the file system joins their commits.
@@ -375,18 +377,23 @@ def failing_at(path: str) -> Iterator[None]:
 
 
 def locked(folder: str, command: str, name: str = "lock") -> IO[str]:
-    """The lock of a folder, in which only one call of a command works: it is held until it is closed. The folder is made if need be."""
+    """The lock of a folder, in which only one call of a command works: it is held until it is closed. The folder is made if need be. A
+    process that a killed call was starting has its lock until it has become another program, so a lock may need a moment."""
     try:
         os.makedirs(folder, exist_ok=True)
         lock = open(os.path.join(folder, name), "a")
     except OSError as error:
         raise Refused(f"{folder}: it can't be made: {error.strerror}") from error
-    try:
-        fcntl.flock(lock, fcntl.LOCK_EX | fcntl.LOCK_NB)
-    except OSError as error:
-        lock.close()
-        raise Refused(f"{folder}: another `tilt-data {command}` works in this folder") from error
-    return lock
+    end = time.monotonic() + LOCK_WAIT
+    while True:
+        try:
+            fcntl.flock(lock, fcntl.LOCK_EX | fcntl.LOCK_NB)
+            return lock
+        except OSError as error:
+            if time.monotonic() >= end:
+                lock.close()
+                raise Refused(f"{folder}: another `tilt-data {command}` works in this folder") from error
+        time.sleep(0.01)
 
 
 def sync(path: str) -> None:

@@ -70,6 +70,11 @@ def add(commands: Any) -> None:
     option("--begun", action="store_true", help="print also what has begun, as start,,value")
     option("--times", action="store_true", help="readings: write times as dates")
     option("--whole", action="store_true", help="the query and its output are in whole numbers, as for `tilt`")
+    option(
+        "--bounds",
+        metavar="BOUNDS",
+        help="the values of inputs, as NAME=LOW:HIGH,.. in their units, which show that no result leaves 64 bits",
+    )
     for name, text in NUMBERS.items():
         option(f"--{name}", metavar="N", type=number, help=text)
     TextConvention.add_to(parser, lasting=True)
@@ -102,9 +107,12 @@ def options_of(words: argparse.Namespace) -> list[str]:
             if tick is not None:
                 cure = "it is for rows; readings can end with a time alone, such as ,2026-03-01T07:00:00Z,"
             raise Refused(f"--{name.replace('_', '-')}: {cure}")
+    if words.whole and words.bounds is not None:
+        raise Refused("--bounds: it is for queries in units, so leave out --whole")
     given: dict[str, Any] = {name: getattr(words, name) for name in (*NUMBERS, "begun", "times") if name != "every"} | {
         "strict": not words.skip_bad,
         "units": not words.whole,
+        "bounds": words.bounds,
     }
     if tick is not None:
         given |= dict(time="time", name="name", value="value", tick=f"{tick}ns", closed=closed, unit=words.unit, event=words.event)

@@ -8,12 +8,13 @@ use Rattle.tilt_feed_text.specs.Split.{ended}
 use Rattle.tilt_live_cli.specs.Arguments.{CommandValue, IsLiveCommand}
 use Rattle.tilt_live_app.specs.Begun.{IsBegun}
 use Rattle.tilt_live_app.specs.Change.{IsSaved, IsUnsaved, ShelfChange, shelf_change}
+use Rattle.tilt_live_app.specs.Counting.{meaning_with, note_of}
 use Rattle.tilt_live_app.specs.Keeping.{HasKept, IsSaveFailure, IsTextOfRun}
 use Rattle.tilt_live_app.specs.Done.{HasRun, IsSaving, IsServed, IsToSave, not_kept, with_state}
 use Rattle.tilt_live_app.specs.InFolder.{FolderMeaning, FoldersChange}
 use Rattle.tilt_live_app.specs.Lived.{HasLived, no_command, no_memory}
 use Rattle.tilt_live_app.specs.Resumed.{IsTextAfter, StartsAt, written_before}
-use Rattle.tilt_live_run.specs.Feeds.{IsRunAt, live_meaning}
+use Rattle.tilt_live_run.specs.Feeds.{IsRunAt}
 use Rattle.tilt_serving.specs.Served.{HasEnded, HasServed, Start}
 use Rattle.tilt_serving.specs.Stops.{is_whole}
 use Rattle.tilt_live_app.specs.declared.failure.Failure.{Failure}
@@ -81,14 +82,16 @@ module _ {S : Type 0} (tells : Type 0) (files : S → List ℕ → List ℕ) (re
       (λ t. later.0 (both.0 t), λ t. both.1 (later.1 t))
 
 module _ {K : Type 0} (shelf : ShelfChange) (tells : Type 0) (old new : Transcript) (err_tells : Type 0) (err_written : K → List ℕ) (err_faults : K → ℕ) (command : CommandValue)
-    (err err_then : K) (begun : IsBegun shelf command) where
+    (err err_then : K) (begun : IsBegun shelf command) (noted : K) (note : Reported err_tells err_written err_faults err noted (note_of begun.counting)) where
   -- the feed was served until something halted it
   pub run-halted : (why : Halt)
       → ((start : Start) → StartsAt begun.options begun.core begun.from start
-      → HasServed (live_meaning begun.core begun.options) start tells old new err_tells err_written err_faults err err_then (Err why))
+      → HasServed (meaning_with begun.core begun.options begun.counting) start tells old new err_tells err_written err_faults noted err_then (Err why))
       → (is_whole {T = Unit {0}} (Err why) ≡ true → new.held_back ≡ 0) → HasRun shelf tells old new err_tells err_written err_faults command err err_then (Err (Halted why))
   run-halted why served handed_on = record {
     begun = begun;
+    noted = noted;
+    note = note;
     served = λ start at. record { served = served start at; is = tt };
     handed_on = handed_on;
   }
@@ -96,11 +99,13 @@ module _ {K : Type 0} (shelf : ShelfChange) (tells : Type 0) (old new : Transcri
   -- it was served to its end by this run
   module _ (run : LiveRun) (accepted : AcceptedParts) (core_is : accepted.core ≡ begun.core) (handed_on : new.held_back ≡ 0)
       (served : (start : Start) → StartsAt begun.options begun.core begun.from start
-      → HasEnded (live_meaning begun.core begun.options) start tells old new err_tells err_written err_faults err err_then
+      → HasEnded (meaning_with begun.core begun.options begun.counting) start tells old new err_tells err_written err_faults noted err_then
       (IsRunAt run (record { accepted = accepted; options = begun.options })) (Ok tt)) where
     served-whole : IsServed shelf tells old new err_tells err_written err_faults command (λ _ _. ⊤) (Ok tt) err err_then
     served-whole = record {
       begun = begun;
+      noted = noted;
+      note = note;
       served = λ start at. record { served = (served start at).served; is = tt };
       handed_on = λ _. handed_on;
     }
@@ -138,6 +143,8 @@ module _ {K : Type 0} (shelf : ShelfChange) (tells : Type 0) (old new : Transcri
         save = save;
         served = record {
           begun = begun;
+          noted = noted;
+          note = note;
           served = λ start at. record { served = (served start at).served; is = text-after text _ of (served start at).is };
           handed_on = λ _. handed_on;
         };

@@ -1,3 +1,4 @@
 mod Choosing
 pub mod Ending
 pub mod Living
+mod Watching

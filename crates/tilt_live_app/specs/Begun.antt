@@ -6,16 +6,20 @@ use Rattle.tilt_input_scales.specs.Scales.{ScalesValue}
 use Rattle.tilt_live_app.specs.Asked.{NamesInputs, form_asked, missing_named, options_asked}
 use Rattle.tilt_live_app.specs.BeginReport.{BeginReport, begin_of_units, no_input, shared}
 use Rattle.tilt_live_app.specs.Change.{ShelfChange}
+use Rattle.tilt_live_app.specs.Counting.{CountsBy}
 use Rattle.tilt_live_app.specs.Resumed.{GoesOnFrom}
 use Rattle.tilt_live_app.specs.StateFile.{RefusesState}
+use Rattle.tilt_live_app.specs.declared.counting.Counting.{Counting}
 use Rattle.tilt_live_run.specs.declared.run_options.RunOptions.{RunOptions}
 use Rattle.tilt_load.specs.QueryFile.{HasQuery, RefusesQuery, TakesQuery}
 use Rattle.tilt_outside.specs.Faults.{Rose}
 use Rattle.tilt_report.specs.Report.{Reason, out_of_memory, read_fault, refusal}
 use Rattle.tilt_run_state.specs.State.{RunStateParts}
 use Rattle.tilt_syntax.specs.Tree.{StatementTree}
+use Rattle.tilt_unit_check.specs.Check.{IsUnknown}
 use Rattle.tilt_unit_load.specs.UnitFile.{IsLoadedInUnits, RefusesUnits}
 use Rattle.tilt_unit_load.specs.UnitReport.{UnitReport}
+use Rattle.tilt_unit_report.specs.declared.bound.InputBound.{InputBound}
 
 -- the file of a query over whole numbers holds this query, which has this core and was taken
 pub record IsWhole (tells : Type 0) (bytes : List ℕ) (query : List StatementTree) (core : CoreParts) : Type 0 where
@@ -43,6 +47,9 @@ module _ (shelf : ShelfChange) (command : CommandValue) where
     misnamed : (query : List StatementTree) (core : CoreParts) (decimals : Option ℕ) (name : List ℕ)
         → HasTaken shelf.tells (shelf.held command.query) command.units query core decimals
         → missing_named command.readings command.units core.inputs ≡ Some name → IsUnbegun (no_input name)
+    unknown : (query : List StatementTree) (core : CoreParts) (decimals : Option ℕ) (scales : ScalesValue) (bounds : List InputBound)
+        (name : List ℕ) → HasTaken shelf.tells (shelf.held command.query) command.units query core decimals → command.units ≡ Some scales
+        → command.bounds ≡ Some bounds → IsUnknown scales bounds core.inputs name → IsUnbegun (no_input name)
     state_refused : {why : Reason} (file : List ℕ) (query : List StatementTree) (core : CoreParts) (decimals : Option ℕ)
         → command.resume ≡ Some file → HasTaken shelf.tells (shelf.held command.query) command.units query core decimals
         → (shelf.tells → RefusesState query (form_asked command.readings command.asked.watermarks core.inputs) file (shelf.held file) why) → IsUnbegun (shared (refusal why))
@@ -51,7 +58,7 @@ module _ (shelf : ShelfChange) (command : CommandValue) where
     no_memory : IsUnbegun (shared out_of_memory)
 
   -- its feed was begun: the query was taken, and so was the state that the run goes on from, if it is to go on from one. The options of the
-  -- run are those that the command asks for
+  -- run are those that the command asks for. So is how its results that leave 64 bits are counted
   pub record IsBegun : Type 0 where
     pub query : List StatementTree
     pub core : CoreParts
@@ -60,5 +67,7 @@ module _ (shelf : ShelfChange) (command : CommandValue) where
     pub named : NamesInputs command core.inputs
     pub options : RunOptions
     pub asked : options ≡ options_asked command core.inputs decimals
+    pub counting : Counting
+    pub counts : CountsBy command core options counting
     pub from : Option RunStateParts
     pub goes_on : GoesOnFrom shelf.tells shelf.held query options.form command.resume from

@@ -4,6 +4,7 @@ use Rattle.tilt_compiler.specs.Accepted.{AcceptedParts}
 use Rattle.tilt_live_app.specs.BeginReport.{BeginReport, line_of_begin, status_of_begin}
 use Rattle.tilt_live_app.specs.Begun.{IsBegun, IsUnbegun}
 use Rattle.tilt_live_app.specs.Change.{ShelfChange}
+use Rattle.tilt_live_app.specs.Counting.{note_of}
 use Rattle.tilt_live_app.specs.Done.{line_of_halt, status_of_halt}
 use Rattle.tilt_live_cli.specs.Arguments.{CommandValue}
 use Rattle.tilt_live_keys.specs.Runs.{keyed_meaning}
@@ -34,8 +35,11 @@ module _ {K : Type 0} (shelf : ShelfChange) (tells : Type 0) (old new : Transcri
     pub begun : IsBegun shelf command
     pub accepted : AcceptedParts
     pub same : accepted.core ≡ begun.core
+    -- what is reported before the feed
+    pub noted : K
+    pub note : Reported err_tells err_written err_faults err noted (note_of begun.counting)
     pub served : HasServed (keyed_meaning (recipe_for accepted begun.options.display command most)) (first_byte (codes "key,start,end,value\n")) tells old new
-        err_tells err_written err_faults err err_then end
+        err_tells err_written err_faults noted err_then end
     -- if it ended by itself or by a line, all of the output was handed on
     pub handed_on : is_whole end ≡ true → new.held_back ≡ 0
 

@@ -4,10 +4,10 @@ use Rattle.tilt_live_cli.specs.Arguments.{CommandValue, IsLiveCommand}
 use Rattle.tilt_live_app.specs.BeginReport.{BeginReport, begin_report, line_of_begin, status_of_begin}
 use Rattle.tilt_live_app.specs.Begun.{IsBegun, IsUnbegun}
 use Rattle.tilt_live_app.specs.Change.{IsSaved, IsUnsaved, ShelfChange}
+use Rattle.tilt_live_app.specs.Counting.{meaning_with, note_of}
 use Rattle.tilt_live_app.specs.Resumed.{IsTextAfter, StartsAt}
 use Rattle.tilt_live_app.specs.declared.failure.Failure.{Failure}
 use Rattle.tilt_live_app.specs.declared.failure.Failure.TheVariants.{Halted, Unbegun, Unmade, Unsaved}
-use Rattle.tilt_live_run.specs.Feeds.{live_meaning}
 use Rattle.tilt_serving.specs.Reported.{Reported}
 use Rattle.tilt_serving.specs.Served.{HasEnded, Start}
 use Rattle.tilt_serving.specs.Stops.{is_whole}
@@ -44,8 +44,11 @@ module _ {K : Type 0} (shelf : ShelfChange) (tells : Type 0) (old new : Transcri
     -- state, and of all bytes of the feed
     pub record IsServed (Is : IsBegun shelf command → List ℕ → Type 0) (end : Result (Unit {0}) Halt) (err err_then : K) : Type 0 where
       pub begun : IsBegun shelf command
+      -- what is reported before the feed
+      pub noted : K
+      pub note : Reported err_tells err_written err_faults err noted (note_of begun.counting)
       pub served : (start : Start) → StartsAt begun.options begun.core begun.from start
-          → HasEnded (live_meaning begun.core begun.options) start tells old new err_tells err_written err_faults err err_then (Is begun) end
+          → HasEnded (meaning_with begun.core begun.options begun.counting) start tells old new err_tells err_written err_faults noted err_then (Is begun) end
       -- if it ended by itself or by a line, all of the output was handed on
       pub handed_on : is_whole end ≡ true → new.held_back ≡ 0
 

@@ -14,6 +14,7 @@ use Rattle.tilt_live_cli.specs.Arguments.{CommandValue, FolderValue}
 use Rattle.tilt_live_app.specs.BeginReport.{BeginReport, line_of_begin, status_of_begin}
 use Rattle.tilt_live_app.specs.Begun.{IsBegun, IsUnbegun}
 use Rattle.tilt_live_app.specs.Change.{ShelfChange}
+use Rattle.tilt_live_app.specs.Counting.{note_of}
 use Rattle.tilt_live_app.specs.FolderReport.{end_of, end_of_entering, line_of_end, status_of_end}
 use Rattle.tilt_live_cli.specs.declared.arguments.Task.TheVariants.{Position, Serve}
 use Rattle.tilt_live_folder.specs.Feeds.{Commits, EndsBadly, Fits, LiveFeed, Rejects, output_for}
@@ -158,7 +159,8 @@ module _ {K : Type 0} (shelf : ShelfChange) (tells : Type 0) (old new : Transcri
         → folders.gives choice.name given → choice.task ≡ Position
         → HasCounted tells old new err_tells err_written err_faults means feed choice.name given err err_then status found
         → HasDoneIn choice err err_then status found
-    in_feed : {status : ℕ} {found : Option F} (begun : IsBegun shelf command) (feed : LiveFeed) (given : F) (plan : Plan)
+    in_feed : {status : ℕ} {found : Option F} (begun : IsBegun shelf command) (feed : LiveFeed) (given : F) (plan : Plan) (noted : K)
         → IsFeedOf shelf command begun feed → folders.gives choice.name given → choice.task ≡ Serve plan
+        → Reported err_tells err_written err_faults err noted (note_of begun.counting)
         → HasServedIn tells old new err_tells err_written err_faults means feed plan choice.name given err_then status found
         → HasDoneIn choice err err_then status found

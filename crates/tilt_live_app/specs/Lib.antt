@@ -4,6 +4,7 @@ pub mod Begun
 pub mod ByKeys
 pub mod Change
 pub mod Checking
+pub mod Counting
 pub mod Done
 pub mod FolderReport
 pub mod InFolder

@@ -8,6 +8,7 @@ ghost use Rattle.tilt_outside.specs.Reads.{OnlyReads};
 ghost use Rattle.tilt_serving.specs.Served.{HasServed, first_byte};
 ghost use Rattle.tilt_serving.specs.Stops.{is_whole};
 
+use crate::counting::report_uncounted;
 use crate::halted::report_halt;
 use crate::job::{Job, load_job};
 use crate::unbegun::report_unbegun;
@@ -39,6 +40,7 @@ pub(crate) fn obey_by_keys<S: Shelf, P: Port, E: Sink>(
         Ok(job) => job,
         Err(why) => return report_unbegun(err, &why),
     };
+    report_uncounted(err, &job.counting);
     let recipe = recipe_for(job, command, most);
     match serve_by_keys(alloc, recipe, port, err) {
         Ok(()) => 0,

@@ -12,6 +12,7 @@ ghost use Rattle.tilt_report.specs.Report.{line_of, report_of, status_of};
 
 use crate::by_keys::obey_by_keys;
 use crate::checking::check_query;
+use crate::counting::report_uncounted;
 use crate::ended_run::EndedRun;
 use crate::failure::Failure;
 use crate::folder_end::report_fault;
@@ -162,6 +163,7 @@ fn run<'a, S: Shelf, P: Port, E: Sink>(
         Ok(job) => job,
         Err(why) => return Err(Failure::Unbegun(why)),
     };
+    report_uncounted(err, &job.counting);
     let keep = keep_for(&command.save);
     let served = match EndedRun::serve(alloc, job, keep, port, err) {
         Ok(served) => served,

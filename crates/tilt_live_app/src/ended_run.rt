@@ -1,9 +1,10 @@
 // A feed that was served to its end, and what is kept of its run.
 ghost use Rattle.std.specs.Prelude.{◌≡◌, ◌≤◌, ◌-◌, ◌↔◌, ℕ, List, Ok, Err, length, true, IfOk, IfErr, MatchResult};
 ghost use Rattle.tilt_live_app.specs.Change.{shelf_change};
+ghost use Rattle.tilt_live_app.specs.Counting.{IsFirst, meaning_with};
 ghost use Rattle.tilt_live_app.specs.Keeping.{HasKept, IsSaveFailure, IsTextOfRun};
 ghost use Rattle.tilt_live_app.specs.Resumed.{IsFitFor, StartsAt, written_before};
-ghost use Rattle.tilt_live_run.specs.Feeds.{IsRunAt, live_meaning};
+ghost use Rattle.tilt_live_run.specs.Feeds.{IsRunAt};
 ghost use Rattle.tilt_live_run.specs.Left.{KeepsState};
 ghost use Rattle.tilt_live_run.specs.Runs.{IsSound};
 ghost use Rattle.tilt_outside.specs.Counts.{added_count};
@@ -43,14 +44,15 @@ impl EndedRun {
         err: &mut E,
     ) -> Result<EndedRun, Halt>
         requires fit { IsFitFor job.accepted.core job.options.form job.from }
+        requires first { IsFirst job.counting job.from }
         requires lines { (n : ℕ) → E.takes err.old n }
         ensures served { (start : Start) → StartsAt job.options job.accepted.core job.from start
             → MatchResult result
-            (λ served. HasEnded (live_meaning job.accepted.core job.options) start P.tells (P.transcript port.old) (P.transcript port.new)
-            E.tells E.written E.faults err.old err.new
+            (λ served. HasEnded (meaning_with job.accepted.core job.options job.counting) start P.tells (P.transcript port.old)
+            (P.transcript port.new) E.tells E.written E.faults err.old err.new
             (IsRunAt served.run (record { accepted = job.accepted; options = job.options })) (Ok tt))
-            (λ why. HasServed (live_meaning job.accepted.core job.options) start P.tells (P.transcript port.old) (P.transcript port.new)
-            E.tells E.written E.faults err.old err.new (Err why)) }
+            (λ why. HasServed (meaning_with job.accepted.core job.options job.counting) start P.tells (P.transcript port.old)
+            (P.transcript port.new) E.tells E.written E.faults err.old err.new (Err why)) }
         ensures handed_on { is_whole result ≡ true → (P.transcript port.new).held_back ≡ 0 }
         ensures query { IfOk result (λ served. served.query ≡ job.query) }
         ensures opening { IfOk result (λ served. served.opening ≡ job.opening) }
@@ -66,6 +68,7 @@ impl EndedRun {
             options,
             opening,
             from,
+            counting,
             ..
         } = job;
         let before = written_before(&from);
@@ -76,7 +79,7 @@ impl EndedRun {
             from,
             keep,
         };
-        let run = serve(alloc, begin, port, err)?;
+        let run = serve(alloc, begin, counting, port, err)?;
         let more = port.count_written().saturating_sub(count);
         Ok(EndedRun {
             run,

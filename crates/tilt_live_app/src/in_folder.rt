@@ -8,6 +8,7 @@ ghost use Rattle.tilt_serving.specs.Reported.{Reported};
 ghost use Rattle.tilt_outside.specs.Reads.{OnlyReads};
 ghost use Rattle.tilt_store.specs.Crash.{Only};
 
+use crate::counting::report_uncounted;
 use crate::folder_end::{end_of, end_of_entering, report_end, report_fault};
 use crate::job::load_job;
 use crate::unbegun::report_unbegun;
@@ -60,7 +61,10 @@ pub(crate) fn obey_in<S: Shelf, F: Folder, D: Folders<F>, P: Port, E: Sink>(
     let recipe = LiveRecipe::new(job.query, job.accepted, job.options);
     match choice.task {
         Task::Position => print_position(alloc, folder, recipe, name, port, err),
-        Task::Serve(plan) => serve_in(alloc, folder, recipe, plan, name, port, err),
+        Task::Serve(plan) => {
+            report_uncounted(err, &job.counting);
+            serve_in(alloc, folder, recipe, plan, name, port, err)
+        }
     }
 }
 

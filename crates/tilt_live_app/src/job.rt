@@ -1,11 +1,12 @@
 // What a command reads before its feed: the query with the options of its run, and the state that the run goes on from.
-ghost use Rattle.std.specs.Prelude.{◌≡◌, ℕ, List, Some, IfOk, IfErr, option_map, string_bytes};
+ghost use Rattle.std.specs.Prelude.{◌≡◌, ◌⊎◌, ◌<◌, ◌^◌, ℕ, List, Some, IfOk, IfErr, length, option_map, string_bytes};
 ghost use Rattle.tilt_checkpoint.specs.Valid.{IsAccepted};
 ghost use Rattle.tilt_live_cli.specs.Arguments.{command_value};
-ghost use Rattle.tilt_live_app.specs.Asked.{NamesInputs, form_asked, options_asked};
+ghost use Rattle.tilt_live_app.specs.Asked.{IsMisnamed, NamesInputs, form_asked, missing_named, options_asked};
 ghost use Rattle.tilt_live_app.specs.BeginReport.{begin_report};
 ghost use Rattle.tilt_live_app.specs.Begun.{HasTaken, IsUnbegun};
 ghost use Rattle.tilt_live_app.specs.Change.{shelf_change};
+ghost use Rattle.tilt_live_app.specs.Counting.{CountsBy, IsMiscounted};
 ghost use Rattle.tilt_live_app.specs.Resumed.{GoesOnFrom, IsFitFor};
 ghost use Rattle.tilt_live_app.specs.StateFile.{RefusesState};
 ghost use Rattle.tilt_load.specs.Load.{IsLoadFault};
@@ -14,6 +15,7 @@ ghost use Rattle.tilt_report.specs.Report.{out_of_memory, report_of};
 ghost use Rattle.tilt_run_state.specs.Spelling.{opening};
 ghost use Rattle.tilt_types.specs.Checked.{core_of};
 
+use crate::counting::{Counting, choose_counting};
 use crate::loaded::{Loaded, load};
 use crate::run_options::run_options;
 use crate::state_file::load_state;
@@ -39,9 +41,11 @@ pub(crate) struct Job {
     // What the states of the run begin with.
     pub(crate) opening: Vec<u8>,
     pub(crate) from: Option<RunState>,
+    // How its results that leave 64 bits are counted.
+    pub(crate) counting: Counting,
 }
 
-// What a command reads before its feed. The errors are those of the file of its query, of the scales of its inputs, and of the file of its
+// What a command reads before its feed. The errors are those of the file of its query, of the names in its options, and of the file of its
 // state.
 pub(crate) fn load_job<'a, S: Shelf>(
     alloc: Global,
@@ -54,6 +58,7 @@ pub(crate) fn load_job<'a, S: Shelf>(
         job.query job.accepted.core job.decimals) }
     ensures named { IfOk result (λ job. NamesInputs (command_value command.now) job.accepted.core.inputs) }
     ensures asked { IfOk result (λ job. job.options ≡ options_asked (command_value command.now) job.accepted.core.inputs job.decimals) }
+    ensures counts { IfOk result (λ job. CountsBy (command_value command.now) job.accepted.core job.options job.counting) }
     ensures opening { IfOk result (λ job. job.opening.items ≡ opening job.options.form) }
     ensures goes_on { IfOk result (λ job. GoesOnFrom S.tells (S.files shelf.old) job.query job.options.form
         (command_value command.now).resume job.from) }
@@ -66,6 +71,7 @@ pub(crate) fn load_job<'a, S: Shelf>(
     let loaded = load_query_of(alloc, shelf, command)?;
     let inputs = loaded.accepted.core().inputs();
     let options = run_options(alloc, command, inputs, loaded.decimals)?;
+    let counting = count_overflows(alloc, command, &loaded)?;
     let opening = open_state(alloc, &options.form)?;
     let from = load_from(alloc, shelf, &command.resume, &loaded.query, &options.form)?;
     Ok(Job {
@@ -75,7 +81,31 @@ pub(crate) fn load_job<'a, S: Shelf>(
         options,
         opening,
         from,
+        counting,
     })
+}
+
+// How the results of a query that leave 64 bits are counted.
+fn count_overflows<'a>(
+    alloc: Global,
+    command: &LiveCommand<'_>,
+    loaded: &Loaded,
+) -> Result<Counting, Unbegun<'a>>
+    requires { length loaded.now.accepted.core.inputs < 2 ^ 32 }
+    ensures counts { IfOk result (λ counting. CountsBy (command_value command.now) loaded.now.accepted.core
+        (options_asked (command_value command.now) loaded.now.accepted.core.inputs loaded.now.decimals) counting) }
+    ensures fault { IfErr result (λ why. IsMisnamed (missing_named (command_value command.now).readings (command_value command.now).units
+        loaded.now.accepted.core.inputs) (begin_report why)
+        ⊎ IsMiscounted (command_value command.now) loaded.now.accepted.core.inputs (begin_report why)) }
+{
+    let options = run_options(
+        alloc,
+        command,
+        loaded.accepted.core().inputs(),
+        loaded.decimals,
+    )?;
+    let counting = choose_counting(alloc, command, &loaded.accepted, options)?;
+    Ok(counting)
 }
 
 // The query of a command.

@@ -17,6 +17,7 @@ mod begin;
 mod by_keys;
 mod checking;
 mod command;
+mod counting;
 mod ended_run;
 mod failure;
 mod folder_end;

@@ -88,6 +88,19 @@ module _ (words : List (List ℕ)) (query : List ℕ) (rest : List (List ℕ)) (
         unsaid command.units (subst (λ (g : ArgumentsValue). AreInUnits (is_set (codes "--units") g.settings) (text_at (codes "--scale") g.settings) command.units)
         (same_given command is) is.units_are)
 
+    -- if the bounds of a query in units are none, neither
+    pub with_unknown : (units : Option ScalesValue)
+        → AreInUnits (is_set (codes "--units") given.settings) (text_at (codes "--scale") given.settings) units
+        → ((bounds : Option (List InputBound)) → ¬ (AreBounds (is_set (codes "--units") given.settings) units (text_at (codes "--bounds") given.settings) bounds))
+        → (command : CommandValue) → ¬ (IsLiveCommand words command)
+    with_unknown units said unsaid command is =
+        let same = same_given command is in
+        let units_same = units_once (is_set (codes "--units") given.settings) (text_at (codes "--scale") given.settings) units command.units said
+        (subst (λ (g : ArgumentsValue). AreInUnits (is_set (codes "--units") g.settings) (text_at (codes "--scale") g.settings) command.units) same is.units_are) in
+        unsaid command.bounds (subst (λ (u : Option ScalesValue). AreBounds (is_set (codes "--units") given.settings) u (text_at (codes "--bounds") given.settings) command.bounds)
+        units_same
+        (subst (λ (g : ArgumentsValue). AreBounds (is_set (codes "--units") g.settings) command.units (text_at (codes "--bounds") g.settings) command.bounds) same is.bounds_are))
+
     -- if the bounds of a check are none, neither
     pub with_unbounded : (units : Option ScalesValue)
         → AreInUnits (is_set (codes "--units") given.settings) (text_at (codes "--scale") given.settings) units
@@ -105,11 +118,12 @@ module _ (words : List (List ℕ)) (query : List ℕ) (rest : List (List ℕ)) (
     pub only_said : (command : CommandValue) → command.query ≡ query → command.plain ≡ is_set (codes "--plain") given.settings → command.dated ≡ is_set (codes "--times") given.settings
         → command.asked ≡ asked_options given.settings → AreSaid (reading_texts given.settings) command.readings
         → AreInUnits (is_set (codes "--units") given.settings) (text_at (codes "--scale") given.settings) command.units
+        → AreBounds (is_set (codes "--units") given.settings) command.units (text_at (codes "--bounds") given.settings) command.bounds
         → AreBounds (is_set (codes "--check") given.settings) command.units (text_at (codes "--bounds") given.settings) command.check
         → command.resume ≡ text_at (codes "--resume") given.settings
         → command.save ≡ text_at (codes "--save") given.settings
         → command.folder ≡ chosen (task_asked given.settings) (text_at (codes "--folder") given.settings) → (other : CommandValue) → IsLiveCommand words other → other ≡ command
-    only_said command queries plains dateds asked readings units checks resumes saves folders other is =
+    only_said command queries plains dateds asked readings units bounds checks resumes saves folders other is =
         let words_same : query ∷ rest ≡ other.query ∷ is.rest = sym front ∙ is.words_are in
         let same = same_given other is in
         let query_same : other.query ≡ command.query = cc in
@@ -120,6 +134,10 @@ module _ (words : List (List ℕ)) (query : List ℕ) (rest : List (List ℕ)) (
         (subst (λ (g : ArgumentsValue). AreSaid (reading_texts g.settings) other.readings) same is.readings_are) in
         let units_same = units_once (is_set (codes "--units") given.settings) (text_at (codes "--scale") given.settings) command.units other.units units
         (subst (λ (g : ArgumentsValue). AreInUnits (is_set (codes "--units") g.settings) (text_at (codes "--scale") g.settings) other.units) same is.units_are) in
+        let bounds_same = bounds_once (is_set (codes "--units") given.settings) command.units (text_at (codes "--bounds") given.settings) command.bounds other.bounds bounds
+        (subst (λ (u : Option ScalesValue). AreBounds (is_set (codes "--units") given.settings) u (text_at (codes "--bounds") given.settings) other.bounds)
+        units_same
+        (subst (λ (g : ArgumentsValue). AreBounds (is_set (codes "--units") g.settings) other.units (text_at (codes "--bounds") g.settings) other.bounds) same is.bounds_are)) in
         let check_same = bounds_once (is_set (codes "--check") given.settings) command.units (text_at (codes "--bounds") given.settings) command.check other.check checks
         (subst (λ (u : Option ScalesValue). AreBounds (is_set (codes "--check") given.settings) u (text_at (codes "--bounds") given.settings) other.check)
         units_same
@@ -134,6 +152,7 @@ module _ (words : List (List ℕ)) (query : List ℕ) (rest : List (List ℕ)) (
           asked = asked_same i;
           readings = readings_same i;
           units = units_same i;
+          bounds = bounds_same i;
           check = check_same i;
           resume = resume_same i;
           save = save_same i;

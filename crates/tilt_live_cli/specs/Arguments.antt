@@ -67,7 +67,8 @@ abbrev pub chosen : Task → Option (List ℕ) → Option FolderValue
 chosen task name = option_map (λ bytes. record { name = bytes; task = task }) name
 
 -- The file of the query; whether no loops are merged; whether times are written as dates; what is asked of the run. What the options of
--- readings say, if the feed has readings. The scales of the inputs, if the query is in units, and what is known of them, if it is checked.
+-- readings say, if the feed has readings. If the query is in units: the scales of its inputs, and what is known of them. The same, if it is
+-- checked and no feed is read.
 -- If there are such files: that of the state that the run goes on from, and that in which its state is saved. If there is one: the folder
 -- into which the feed is served
 pub record CommandValue : Type 0 where
@@ -77,6 +78,7 @@ pub record CommandValue : Type 0 where
   pub asked : Asked
   pub readings : Option ChoiceValue
   pub units : Option ScalesValue
+  pub bounds : Option (List InputBound)
   pub check : Option (List InputBound)
   pub resume : Option (List ℕ)
   pub save : Option (List ℕ)
@@ -96,6 +98,7 @@ pub record IsLiveCommand (words : List (List ℕ)) (command : CommandValue) : Ty
   pub asked_is : command.asked ≡ asked_options given.settings
   pub readings_are : AreSaid (reading_texts given.settings) command.readings
   pub units_are : AreInUnits (is_set (codes "--units") given.settings) (text_at (codes "--scale") given.settings) command.units
+  pub bounds_are : AreBounds (is_set (codes "--units") given.settings) command.units (text_at (codes "--bounds") given.settings) command.bounds
   pub check_is : AreBounds (is_set (codes "--check") given.settings) command.units (text_at (codes "--bounds") given.settings) command.check
   pub resume_is : command.resume ≡ text_at (codes "--resume") given.settings
   pub save_is : command.save ≡ text_at (codes "--save") given.settings
@@ -114,6 +117,7 @@ command_value command = record {
   asked = command.asked;
   readings = command.readings;
   units = command.units;
+  bounds = option_map (λ bounds. bounds.items) command.bounds;
   check = option_map (λ bounds. bounds.items) command.check;
   resume = option_map (λ file. string_bytes file) command.resume;
   save = option_map (λ file. string_bytes file) command.save;

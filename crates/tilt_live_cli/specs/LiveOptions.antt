@@ -96,11 +96,11 @@ in_units_fit false settings = is_set (codes "--time") settings || not (is_set (c
 abbrev pub units_fit : List SettingValue → Bool
 units_fit settings = in_units_fit (is_set (codes "--units") settings) settings
 
--- whether only a query in units is checked, in place of a run, and bounds are those of a check
+-- whether only a query in units is checked, in place of a run, and bounds are those of a query in units
 abbrev pub checks_fit : List SettingValue → Bool
 checks_fit settings =
     if is_set (codes "--check") settings then is_set (codes "--units") settings && not (is_set (codes "--position") settings)
-    else not (is_set (codes "--bounds") settings)
+    else is_set (codes "--units") settings || not (is_set (codes "--bounds") settings)
 
 -- whether a feed with keys has no other options than those that it can have, and a number of keys is that of such a feed
 abbrev pub keys_fit : List SettingValue → Bool

@@ -58,7 +58,7 @@ AreInUnits false text (Some scales) = ⊥
 AreInUnits true text None = ⊥
 AreInUnits true text (Some scales) = scales_said text ≡ Ok scales
 
--- what is known of the inputs, if a query in units with these scales is checked: what the text of `--bounds` says
+-- what is known of the inputs of a query in units with these scales, if it is asked for: what the text of `--bounds` says
 abbrev pub AreBounds : Bool → Option ScalesValue → Option (List ℕ) → Option (List InputBound) → Type 0
 AreBounds false units text None = ⊤
 AreBounds false units text (Some bounds) = ⊥

@@ -9,7 +9,7 @@ ghost use Rattle.tilt_live_cli.specs.Readings.{reading_texts, scale_text, text_a
 
 use crate::asked::Asked;
 use crate::live_options::{options_fit, read_options};
-use crate::reading_texts::{read_check, read_readings, read_units, take_reading_texts};
+use crate::reading_texts::{read_known, read_readings, read_units, take_reading_texts};
 use std::alloc::Global;
 use tilt_cli::{Arguments, WordsFault, is_file};
 use tilt_exactly_once::Plan;
@@ -35,7 +35,9 @@ pub struct LiveCommand<'a> {
     pub readings: Option<ReadingChoice>,
     /// The scales of the inputs, if the query is in units.
     pub units: Option<Scales>,
-    /// What is known of the inputs, if the query is checked and no feed is read.
+    /// What is known of the inputs, if the query is in units.
+    pub bounds: Option<Vec<InputBound>>,
+    /// The same, if the query is checked and no feed is read.
     pub check: Option<Vec<InputBound>>,
     /// The file of the state that it goes on from, if it goes on from one.
     pub resume: Option<String>,
@@ -116,7 +118,8 @@ pub fn read_command(alloc: Global, words: &[String]) -> Result<LiveCommand<'_>, 
     let checks = given.has("--check");
     let texts = take_texts(&mut given);
     let units = read_units(alloc, in_units, scale_in(&texts.readings, &texts.scale))?;
-    let check = read_check(alloc, checks, &units, &texts.bounds)?;
+    let bounds = read_known(alloc, in_units, &units, &texts.bounds)?;
+    let check = read_known(alloc, checks, &units, &texts.bounds)?;
     let readings = read_readings(alloc, texts.readings)?;
     Ok(LiveCommand {
         query,
@@ -125,6 +128,7 @@ pub fn read_command(alloc: Global, words: &[String]) -> Result<LiveCommand<'_>, 
         asked,
         readings,
         units,
+        bounds,
         check,
         resume: texts.resume,
         save: texts.save,

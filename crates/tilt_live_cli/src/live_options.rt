@@ -283,14 +283,14 @@ fn units_fit(given: &Arguments) -> bool
     }
 }
 
-// Whether only a query in units is checked, in place of a run, and bounds are those of a check.
+// Whether only a query in units is checked, in place of a run, and bounds are those of a query in units.
 fn checks_fit(given: &Arguments) -> bool
     ensures { result ≡ checks_fit (arguments_of given.now).settings }
 {
     if given.has("--check") {
         given.has("--units") && !given.has("--position")
     } else {
-        !given.has("--bounds")
+        given.has("--units") || !given.has("--bounds")
     }
 }
 

@@ -91,19 +91,19 @@ pub(crate) fn read_units(
     }
 }
 
-// What a text says of the inputs, if a query in units with these scales is checked.
-pub(crate) fn read_check(
+// What a text says of the inputs of a query in units with these scales, if it is asked for.
+pub(crate) fn read_known(
     alloc: Global,
-    checks: bool,
+    asked: bool,
     units: &Option<Scales>,
     text: &Option<String>,
 ) -> Result<Option<Vec<InputBound>>, WordsFault>
     ensures { MatchResult result
-        (λ bounds. AreBounds checks units.now (option_map (λ text. string_bytes text) text.now) (option_map (λ all. all.items) bounds))
+        (λ bounds. AreBounds asked units.now (option_map (λ text. string_bytes text) text.now) (option_map (λ all. all.items) bounds))
         (λ fault. fault ≡ Usage → (bounds : Option (List InputBound))
-        → ¬ (AreBounds checks units.now (option_map (λ text. string_bytes text) text.now) bounds)) }
+        → ¬ (AreBounds asked units.now (option_map (λ text. string_bytes text) text.now) bounds)) }
 {
-    if !checks {
+    if !asked {
         return Ok(None);
     }
     let Some(scales) = units else {

@@ -1,8 +1,9 @@
 // The check of a query file in units.
-ghost use Rattle.std.specs.Prelude.{◌≡◌, ◌<◌, Some, length, IfErr, IfOk, option_map};
+ghost use Rattle.std.specs.Prelude.{◌≡◌, ◌<◌, Some, length, IfErr, IfOk, is_err, option_map};
 ghost use Rattle.std.specs.List.{slice_get};
 ghost use Rattle.tilt_outside.specs.Reads.{OnlyReads};
 ghost use Rattle.tilt_unit_check.specs.Check.{HasChecked, IsChecked, IsNamed, IsNoCheck, IsSafe, IsUnchecked, items_of};
+ghost use Rattle.tilt_unit_report.specs.IllScaled.{magnitudes_of};
 ghost use Rattle.tilt_unit_report.specs.Report.{definition_name};
 ghost use Rattle.tilt_unit_report.specs.declared.bound.InputBound.{InputBound};
 
@@ -15,7 +16,8 @@ use tilt_reading_options::check_names;
 use tilt_syntax::Query;
 use tilt_unit_load::load_in_units;
 use tilt_unit_report::{
-    BoundFault, IllScaled, InputBound, MagnitudeReport, definition_name, report_magnitudes,
+    BoundFault, IllScaled, InputBound, MagnitudeReport, can_leave, definition_name,
+    report_magnitudes,
 };
 
 /// What the check of a query file found.
@@ -75,6 +77,27 @@ fn check_core<'a>(
         text: report.text,
         can_leave,
     })
+}
+
+/// Whether a number of a query in units can leave 64 bits, if its inputs have these scales and are within these bounds. The core is that of
+/// the query over whole numbers. `NoInput` comes if a scale or a bound has a name that is no input of the query. It has the first such
+/// name, of the scales before the bounds. `Unloaded` comes only if there was no memory.
+pub fn check_bounds<'a>(
+    alloc: Global,
+    core: &Core,
+    scales: &Scales,
+    bounds: &[InputBound],
+) -> Result<bool, CheckFault<'a>>
+    ensures can { IfOk result (λ can. can ≡ is_err (magnitudes_of core.now bounds.now)) }
+    ensures fault { IfErr result (λ why. IsNoCheck scales.now bounds.now core.now.inputs why) }
+{
+    let named = scales.named();
+    check_names(named, core.inputs())?;
+    match can_leave(alloc, core, bounds) {
+        Ok(can) => Ok(can),
+        Err(BoundFault::UnknownInput { bound }) => Err(unknown_at(bounds, bound)),
+        Err(BoundFault::OutOfMemory) => Err(CheckFault::from(OutOfMemory)),
+    }
 }
 
 // The fault of the bound at a place, whose name is no input.

@@ -14,6 +14,6 @@ mod fault;
 mod law;
 
 pub use bound_text::read_bounds;
-pub use check::{Checked, check_in_units};
+pub use check::{Checked, check_bounds, check_in_units};
 pub use fault::CheckFault;
 pub use law::checked_queries_are_exact;

@@ -13,6 +13,7 @@ mod bound;
 mod fault;
 mod ill_scaled;
 mod law;
+mod leaving;
 mod report;
 mod text;
 
@@ -20,5 +21,6 @@ pub use bound::InputBound;
 pub use fault::BoundFault;
 pub use ill_scaled::IllScaled;
 pub use law::ill_scaled_queries_have_one_statement;
+pub use leaving::can_leave;
 pub use report::{MagnitudeReport, report_magnitudes};
 pub use text::definition_name;

@@ -126,7 +126,7 @@ fn put_magnitudes(
 }
 
 // The intervals of all sources, or the first node that can leave 64 bits.
-fn find_magnitudes(
+pub(crate) fn find_magnitudes(
     alloc: Global,
     core: &Core,
     values: &[Interval],

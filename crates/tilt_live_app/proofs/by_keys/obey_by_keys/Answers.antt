@@ -17,11 +17,15 @@ returns-in-Ok-serve_by_keys-clause-is g c =
         named = c.in-Ok.ensures.named;
         options = job.options;
         asked = c.in-Ok.ensures.asked;
+        counting = job.counting;
+        counts = c.in-Ok.ensures.counts;
         from = job.from;
         goes_on = c.in-Ok.ensures.goes_on;
       };
       accepted = job.accepted;
       same = refl;
+      noted = c.report_uncounted.new.err;
+      note = c.report_uncounted.ensures.note;
       served = rw c.recipe_for-recipe.ensures at c.in-Ok-serve_by_keys.ensures.served;
       handed_on = c.in-Ok-serve_by_keys.ensures.handed_on;
     })
@@ -38,11 +42,15 @@ returns-in-Err-serve_by_keys-clause-is g c =
         named = c.in-Ok.ensures.named;
         options = job.options;
         asked = c.in-Ok.ensures.asked;
+        counting = job.counting;
+        counts = c.in-Ok.ensures.counts;
         from = job.from;
         goes_on = c.in-Ok.ensures.goes_on;
       };
       accepted = job.accepted;
       same = refl;
+      noted = c.report_uncounted.new.err;
+      note = c.report_uncounted.ensures.note;
       served = rw c.recipe_for-recipe.ensures at c.in-Err-serve_by_keys.ensures.served;
       handed_on = c.in-Err-serve_by_keys.ensures.handed_on;
     }) c.report_halt.ensures.line)

@@ -1,5 +1,6 @@
 use Rattle.std.proofs.Common.{ℕ, List, Option, Some, String, Global, refl, ap, sym, ◌∙◌, option_map, string_bytes}
 use Rattle.std.proofs.lemmas.Option.{none-some}
+use Rattle.tilt_live_app.proofs.Watching.{counts-first}
 use Rattle.tilt_live_app.proofs.Ending.{kept-first, rest-first, run-halted, run-kept, run-unkept, takes-first}
 use Rattle.tilt_live_cli.specs.Arguments.{command_value}
 use Rattle.tilt_live_app.proofs.command.run.Goals as goal
@@ -9,6 +10,12 @@ file_bytes file = option_map (λ text. string_bytes text) file
 
 pub returns-in-Err-clause-is : goal.returns-in-Err-clause-is
 returns-in-Err-clause-is g c = (c.in-Err.ensures.fault, refl, refl)
+
+pub serve-requires-clause-first : goal.serve-requires-clause-first
+serve-requires-clause-first g c =
+    let job = c.in-Ok.job in
+    counts-first g.S.Shelf.tells (g.S.Shelf.files c.args.shelf.now) job.query (command_value c.args.command.now) job.accepted.core job.options job.counting job.from
+    c.in-Ok.ensures.counts c.in-Ok.ensures.goes_on
 
 pub returns-in-Err-serve-clause-is : goal.returns-in-Err-serve-clause-is
 returns-in-Err-serve-clause-is g c =
@@ -22,10 +29,12 @@ returns-in-Err-serve-clause-is g c =
       named = c.in-Ok.ensures.named;
       options = job.options;
       asked = c.in-Ok.ensures.asked;
+      counting = job.counting;
+      counts = c.in-Ok.ensures.counts;
       from = job.from;
       goes_on = c.in-Ok.ensures.goes_on;
     })
-    c.in-Err-serve.halt c.in-Err-serve.ensures.served c.in-Err-serve.ensures.handed_on
+    c.report_uncounted.new.err c.report_uncounted.ensures.note c.in-Err-serve.halt c.in-Err-serve.ensures.served c.in-Err-serve.ensures.handed_on
 
 pub returns-in-None-clause-is : goal.returns-in-None-clause-is
 returns-in-None-clause-is g c =
@@ -39,9 +48,12 @@ returns-in-None-clause-is g c =
       named = c.in-Ok.ensures.named;
       options = job.options;
       asked = c.in-Ok.ensures.asked;
+      counting = job.counting;
+      counts = c.in-Ok.ensures.counts;
       from = job.from;
       goes_on = c.in-Ok.ensures.goes_on;
     })
+    c.report_uncounted.new.err c.report_uncounted.ensures.note
     c.in-Ok-serve.served.run job.accepted refl (c.in-Ok-serve.ensures.handed_on refl) c.in-Ok-serve.ensures.served (ap file_bytes c.in-None.is)
 
 pub save-requires-clause-keeps : goal.save-requires-clause-keeps
@@ -68,9 +80,12 @@ returns-in-Some-clause-is g c =
       named = c.in-Ok.ensures.named;
       options = job.options;
       asked = c.in-Ok.ensures.asked;
+      counting = job.counting;
+      counts = c.in-Ok.ensures.counts;
       from = job.from;
       goes_on = c.in-Ok.ensures.goes_on;
     })
+    c.report_uncounted.new.err c.report_uncounted.ensures.note
     served.run job.accepted refl (c.in-Ok-serve.ensures.handed_on refl) c.in-Ok-serve.ensures.served c.in-Ok.ensures.accepted.0 c.in-Ok.ensures.accepted.1 job.opening.items c.in-Ok.ensures.opening
     served.written c.in-Ok-serve.ensures.written name (ap file_bytes c.in-Some.is ∙ ap Some (sym c.as_str.ensures.value)) c.save.result
     (rw (c.in-Ok-serve.ensures.query, c.in-Ok-serve.ensures.opening) at (kept-first g.S.Shelf.tells g.S.Shelf.files g.S.Shelf.read_faults g.S.Shelf.save_faults g.S.Shelf.takes c.args.shelf.now

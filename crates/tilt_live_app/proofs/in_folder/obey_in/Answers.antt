@@ -23,6 +23,8 @@ returns-in-Err-enter-clause-is g c =
       named = c.in-Ok.ensures.named;
       options = job.options;
       asked = c.in-Ok.ensures.asked;
+      counting = job.counting;
+      counts = c.in-Ok.ensures.counts;
       from = job.from;
       goes_on = c.in-Ok.ensures.goes_on;
     })
@@ -41,6 +43,8 @@ returns-in-Position-clause-is g c =
       named = c.in-Ok.ensures.named;
       options = job.options;
       asked = c.in-Ok.ensures.asked;
+      counting = job.counting;
+      counts = c.in-Ok.ensures.counts;
       from = job.from;
       goes_on = c.in-Ok.ensures.goes_on;
     })
@@ -59,8 +63,10 @@ returns-clause-is g c =
       named = c.in-Ok.ensures.named;
       options = job.options;
       asked = c.in-Ok.ensures.asked;
+      counting = job.counting;
+      counts = c.in-Ok.ensures.counts;
       from = job.from;
       goes_on = c.in-Ok.ensures.goes_on;
     })
-    c.new-recipe.result c.in-Ok-enter.folder c.in-Serve.plan (feed-of _ _ _ job.accepted _ refl c.new-recipe.ensures)
-    (rw c.as_str-name.ensures.value at c.in-Ok-enter.ensures.gives) c.in-Serve.is (rw c.as_str-name.ensures.value at c.serve_in.ensures.served)
+    c.new-recipe.result c.in-Ok-enter.folder c.in-Serve.plan c.report_uncounted.new.err (feed-of _ _ _ job.accepted _ refl c.new-recipe.ensures)
+    (rw c.as_str-name.ensures.value at c.in-Ok-enter.ensures.gives) c.in-Serve.is c.report_uncounted.ensures.note (rw c.as_str-name.ensures.value at c.serve_in.ensures.served)

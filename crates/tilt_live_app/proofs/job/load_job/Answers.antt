@@ -2,6 +2,7 @@ use Rattle.std.proofs.Common.{◌∙◌, ap, arith, sym}
 use Rattle.std.proofs.lemmas.Result.{err_from_is_err_and}
 use Rattle.tilt_core.specs.Core.{CoreParts}
 use Rattle.tilt_live_app.proofs.Living.{names-unbegun, state-unbegun}
+use Rattle.tilt_live_app.proofs.Watching.{counts-unbegun}
 use Rattle.tilt_live_cli.specs.Arguments.{command_value}
 use Rattle.tilt_live_app.specs.BeginReport.{begin_report}
 use Rattle.tilt_live_app.specs.Begun.{no_memory}
@@ -53,3 +54,11 @@ returns-clause-goes_on g c = rw c.in_ok-loaded.ensures.rest.same_files at c.in_o
 
 pub returns-clause-fit : goal.returns-clause-fit
 returns-clause-fit g c = rw (sym c.in_ok-loaded.ensures.accepted.1) at c.in_ok-from.ensures.fit
+
+pub returns-in_err-counting-clause-fault : goal.returns-in_err-counting-clause-fault
+returns-in_err-counting-clause-fault g c =
+    let p = err_from_is_err_and c.from_residual-in_err-counting.result c.from_residual-in_err-counting.ensures.1 in
+    let loaded = c.in_ok-loaded.loaded in
+    rw (p.1, p.2) (counts-unbegun g.S.Shelf.tells g.S.Shelf.files g.S.Shelf.read_faults g.S.Shelf.save_faults g.S.Shelf.takes
+    (command_value c.args.command.now) c.args.shelf.now c.load_query_of.new.shelf loaded.query loaded.accepted.core loaded.decimals
+    c.in_ok-loaded.ensures.taken (begin_report c.in_err-counting.field-0.0) c.in_err-counting.ensures.fault)

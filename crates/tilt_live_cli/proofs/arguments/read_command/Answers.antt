@@ -2,7 +2,7 @@ use Rattle.std.proofs.Common.{◌≡◌, ◌==◌, rules, length, refl, sym, ◌
 use Rattle.std.proofs.lemmas.Result.{err_from_is_err_and}
 use Rattle.tilt_cli.specs.Arguments.{arguments_of}
 use Rattle.tilt_cli.specs.Command.{texts}
-use Rattle.tilt_live_cli.proofs.OneCommand.{front_texts, only_said, some_binds, with_binds, with_unbounded, with_unfit, with_unsaid, with_unscaled}
+use Rattle.tilt_live_cli.proofs.OneCommand.{front_texts, only_said, some_binds, with_binds, with_unbounded, with_unfit, with_unknown, with_unsaid, with_unscaled}
 use Rattle.tilt_live_cli.proofs.arguments.read_command.Goals as goal
 
 pub returns-then-not-is_empty-clause-is : goal.returns-then-not-is_empty-clause-is
@@ -30,6 +30,15 @@ returns-in_err-units-clause-is c =
     rw (p.1, p.2) (λ usage. with_unscaled _ query (texts c.in-Some.rest.now) front (arguments_of c.in_ok-given.given) c.in_ok-given.ensures
     (rw (c.has-in_units.ensures, text) at (c.in_err-units.ensures usage)))
 
+pub returns-in_err-bounds-clause-is : goal.returns-in_err-bounds-clause-is
+returns-in_err-bounds-clause-is c =
+    let query = c.as_str-query.result.now in
+    let front = front_texts c.args.words.now c.in-Some.first.now c.in-Some.rest.now query c.in-Some.ensures.cases.0 c.as_str-query.ensures.value in
+    let p = err_from_is_err_and c.from_residual-in_err-bounds.result c.from_residual-in_err-bounds.ensures.1 in
+    let units = rw (c.has-in_units.ensures, c.scale_in.ensures ∙ c.take_texts-texts.ensures.scale) at c.in_ok-units.ensures in
+    rw (p.1, p.2) (λ usage. with_unknown _ query (texts c.in-Some.rest.now) front (arguments_of c.in_ok-given.given) c.in_ok-given.ensures _ units
+    (rw (c.has-in_units.ensures, c.take_texts-texts.ensures.bounds) at (c.in_err-bounds.ensures usage)))
+
 pub returns-in_err-check-clause-is : goal.returns-in_err-check-clause-is
 returns-in_err-check-clause-is c =
     let query = c.as_str-query.result.now in
@@ -46,6 +55,7 @@ returns-clause-only c =
     only_said _ query (texts c.in-Some.rest.now) front (arguments_of c.in_ok-given.given) c.in_ok-given.ensures _ refl c.has-plain.ensures c.has-dated.ensures
     c.asked_options-asked.ensures (rw c.take_texts-texts.ensures.readings at c.in_ok-readings.ensures)
     (rw (c.has-in_units.ensures, c.scale_in.ensures ∙ c.take_texts-texts.ensures.scale) at c.in_ok-units.ensures)
+    (rw (c.has-in_units.ensures, c.take_texts-texts.ensures.bounds) at c.in_ok-bounds.ensures)
     (rw (c.has-checks.ensures, c.take_texts-texts.ensures.bounds) at c.in_ok-check.ensures) c.take_texts-texts.ensures.resume
     c.take_texts-texts.ensures.save (rw (c.task_asked-task.ensures, c.take_texts-texts.ensures.folder) at c.choose.ensures)
 
