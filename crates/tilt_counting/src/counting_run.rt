@@ -4,10 +4,9 @@ ghost use Rattle.tilt_counting.specs.Count.{line_count};
 ghost use Rattle.tilt_outside.specs.Counts.{added_count};
 
 use crate::count::{count_lines, report_count};
-use crate::unheard::Unheard;
 use std::alloc::Global;
 use tilt_outside::Sink;
-use tilt_port::{BufferPort, Port};
+use tilt_port::{BufferPort, Port, Unheard};
 use tilt_serving::{FeedRun, Stop};
 
 /// A run of a feed, and another run that takes the same feed. The rows of the other run are counted and not written; its reports are

@@ -9,6 +9,5 @@
 
 mod count;
 mod counting_run;
-mod unheard;
 
 pub use counting_run::CountingRun;

@@ -10,7 +10,6 @@ mod query;
 mod recipe;
 mod resuming;
 mod tail;
-mod unheard;
 
 pub use machine::LiveMachine;
 pub use recipe::LiveRecipe;

@@ -13,13 +13,12 @@ use crate::query::copy;
 use crate::recipe::LiveRecipe;
 use crate::resuming::resume_lines;
 use crate::tail::{grow, split_lines};
-use crate::unheard::Unheard;
 use std::alloc::{AllocError as OutOfMemory, Global};
 use tilt_exactly_once::{Machine, Refusal, Resumed, Started, Stop};
 use tilt_feed_form::FeedForm;
 use tilt_live_run::{Keep, LiveRun};
 use tilt_outside::Sink;
-use tilt_port::BufferPort;
+use tilt_port::{BufferPort, Unheard};
 use tilt_run_state::{RunState, is_in_range, put_opening, put_state};
 use tilt_syntax::Query;
 

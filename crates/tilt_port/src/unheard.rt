@@ -1,11 +1,11 @@
-// A sink that drops what it gets.
+// Reports that go nowhere.
 ghost use Rattle.std.specs.Prelude.{⊤, []};
 
 use tilt_outside::{Failed, Sink};
 
-// A sink for reports that can't come.
+/// A sink that drops what it gets.
 #[derive(Drop)]
-pub(crate) struct Unheard;
+pub struct Unheard;
 
 impl Sink for Unheard {
     ghost tells = { ⊥ };
