@@ -18,7 +18,7 @@ key_word word (c ∷ key) bytes lone =
     rw parts.0 (rw append_assoc at (key_word (word ++ (c ∷ [])) key bytes parts.1))
 
 -- no special byte comes in between
-special_append : (key bytes : List ℕ) → list_any is_special key ≡ false → list_any is_special bytes ≡ false
+pub special_append : (key bytes : List ℕ) → list_any is_special key ≡ false → list_any is_special bytes ≡ false
     → list_any is_special (key ++ 44 ∷ bytes) ≡ false
 special_append [] bytes k b = b
 special_append (c ∷ key) bytes k b =
@@ -30,7 +30,7 @@ said_words : (inputs : List (List ℕ)) (bytes : List ℕ) → is_plain bytes �
 said_words inputs bytes plain = rw (plain_bytes bytes plain) refl
 
 -- one field more
-fields_keyed : (inputs fields : List (List ℕ)) (c : ℕ) (cs : List ℕ) (said : Line) → fields_said inputs fields ≡ Ok said
+pub fields_keyed : (inputs fields : List (List ℕ)) (c : ℕ) (cs : List ℕ) (said : Line) → fields_said inputs fields ≡ Ok said
     → keyed_fields_said inputs ((c ∷ cs) ∷ fields) ≡ Ok (keyed.OfKey (c ∷ cs) said)
 fields_keyed inputs [] c cs said e = cc e
 fields_keyed inputs (x ∷ []) c cs said e = cc e

@@ -1,3 +1,4 @@
+pub mod AtOnce
 pub mod Keyed
 pub mod OfInputs
 pub mod Only

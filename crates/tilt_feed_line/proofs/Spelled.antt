@@ -12,7 +12,7 @@ use Rattle.tilt_base.proofs.Decimals.{number_spelled-signed_decimal}
 use Rattle.tilt_feed.specs.declared.update.Update.{Update}
 use Rattle.tilt_feed.specs.declared.update.Update.TheVariants as update
 use Rattle.tilt_feed_line.specs.Lines.{all_known_said, form_said, input_named, known_said, line_said, no_value_said, row_said, value_said}
-use Rattle.tilt_feed_line.specs.Plain.{is_plain, is_special}
+use Rattle.tilt_feed_line.specs.Plain.{is_plain, is_special, words}
 use Rattle.tilt_feed_line.specs.Texts.{FitsUpdate, fields_text, update_text}
 use Rattle.tilt_feed_line.specs.declared.line.Line.TheVariants as line
 use Rattle.tilt_feed_line.proofs.PlainLines.{plain_bytes}
@@ -22,7 +22,7 @@ use Rattle.tilt_stream.specs.Text.{cell_text}
 use Rattle.tilt_text.proofs.Lacks.{Lacks, all_lack, lacks-append, lacks-more, lacks-parts, signed_lacks}
 
 -- a byte that passes a test which the mark fails is another
-other_byte : (mark : ℕ) (test : ℕ → Bool) (b : ℕ) → test mark ≡ false → test b ≡ true → (b == mark) ≡ false
+pub other_byte : (mark : ℕ) (test : ℕ → Bool) (b : ℕ) → test mark ≡ false → test b ≡ true → (b == mark) ≡ false
 other_byte mark test b fails passes =
     elim (cases_Bool (b == mark)) [
       | inl same ↦ absurd (false≢true (sym fails ∙ ap test (sym (eqb-true b mark same)) ∙ passes))
@@ -30,13 +30,13 @@ other_byte mark test b fails passes =
     ]
 
 -- a field that needs no quotes
-record IsClean (field : List ℕ) : Type 0 where
-  quote : Lacks 34 field
-  comma : Lacks 44 field
-  feed : Lacks 10 field
-  return : Lacks 13 field
+pub record IsClean (field : List ℕ) : Type 0 where
+  pub quote : Lacks 34 field
+  pub comma : Lacks 44 field
+  pub feed : Lacks 10 field
+  pub return : Lacks 13 field
 
-nothing_clean : IsClean []
+pub nothing_clean : IsClean []
 nothing_clean = record { quote = refl; comma = refl; feed = refl; return = refl }
 
 decimal_clean : (z : ℤ) → FitsSigned w64 z → IsClean (signed_decimal z)
@@ -57,7 +57,7 @@ word_lacks mark begins goes (c ∷ cs) word =
     let parts = and_parts (begins_word c) (list_all goes_on_word cs) word in
     lacks-more mark c cs (other_byte mark begins_word c begins parts.0) (all_lack mark goes_on_word goes cs parts.1)
 
-word_clean : (name : List ℕ) → IsWord name → IsClean name
+pub word_clean : (name : List ℕ) → IsWord name → IsClean name
 word_clean name word = record {
   quote = word_lacks 34 refl refl name word;
   comma = word_lacks 44 refl refl name word;
@@ -66,11 +66,11 @@ word_clean name word = record {
 }
 
 -- its first byte, if it has one, isn't that of a byte order mark
-abbrev NoMark : List ℕ → Type 0
+abbrev pub NoMark : List ℕ → Type 0
 NoMark [] = Unit {0}
 NoMark (c ∷ cs) = (c == 0xEF) ≡ false
 
-word_no_mark : (name : List ℕ) → IsWord name → NoMark name
+pub word_no_mark : (name : List ℕ) → IsWord name → NoMark name
 word_no_mark [] word = tt
 word_no_mark (c ∷ cs) word = other_byte 0xEF begins_word c refl (and_parts (begins_word c) (list_all goes_on_word cs) word).0
 
@@ -94,26 +94,37 @@ fields_plain : (name rest : List ℕ) → NoMark name → list_any is_special (n
 fields_plain [] rest other plain = rw plain refl
 fields_plain (c ∷ cs) rest other plain = rw (other, plain) refl
 
--- clean fields with commas are read as these fields
-said_fields : (inputs : List (List ℕ)) (name start end value : List ℕ)
-    → IsClean name → IsClean start → IsClean end → IsClean value → NoMark name
-    → line_said inputs (fields_text name start end value) ≡ form_said inputs name start end value
-said_fields inputs name start end value n s e v other =
+-- clean fields with commas need no quotes
+pub clean_plain : (name start end value : List ℕ) → IsClean name → IsClean start → IsClean end → IsClean value → NoMark name
+    → is_plain (fields_text name start end value) ≡ true
+clean_plain name start end value n s e v other =
     let quotes = fields_lack 34 refl name start end value n.quote s.quote e.quote v.quote in
     let feeds = fields_lack 10 refl name start end value n.feed s.feed e.feed v.feed in
     let returns = fields_lack 13 refl name start end value n.return s.return e.return v.return in
     let none = none_special (fields_text name start end value) quotes feeds returns in
-    let plain = fields_plain name (start ++ 44 ∷ (end ++ 44 ∷ value)) other none in
+    fields_plain name (start ++ 44 ∷ (end ++ 44 ∷ value)) other none
+
+-- and their words are these fields
+pub clean_words : (name start end value : List ℕ) → IsClean name → IsClean start → IsClean end → IsClean value
+    → words (fields_text name start end value) ≡ name ∷ start ∷ end ∷ value ∷ []
+clean_words name start end value n s e v =
     rw (
-      plain_bytes (fields_text name start end value) plain,
       cut_word name (start ++ 44 ∷ (end ++ 44 ∷ value)) n.comma,
       cut_word start (end ++ 44 ∷ value) s.comma,
       cut_word end value e.comma,
       lone_word value v.comma,
     ) refl
 
+-- so they are read as these fields
+said_fields : (inputs : List (List ℕ)) (name start end value : List ℕ)
+    → IsClean name → IsClean start → IsClean end → IsClean value → NoMark name
+    → line_said inputs (fields_text name start end value) ≡ form_said inputs name start end value
+said_fields inputs name start end value n s e v other =
+    let plain = clean_plain name start end value n s e v other in
+    rw (plain_bytes (fields_text name start end value) plain, clean_words name start end value n s e v) refl
+
 -- a word and a shortest decimal aren't empty
-word_some : (name : List ℕ) → IsWord name → 0 < length name
+pub word_some : (name : List ℕ) → IsWord name → 0 < length name
 word_some [] word = cc word
 word_some (c ∷ cs) word = omega arith
 
@@ -122,27 +133,27 @@ decimal_some (pos n) fits = decimal_nonempty n (omega (arith, fits.sfits))
 decimal_some (negsuc n) fits = omega arith
 
 -- the forms of what isn't empty
-row_form : (inputs : List (List ℕ)) (name start end value : List ℕ) → 0 < length name → 0 < length start → 0 < length end
+pub row_form : (inputs : List (List ℕ)) (name start end value : List ℕ) → 0 < length name → 0 < length start → 0 < length end
     → form_said inputs name start end value ≡ row_said inputs name start end value
 row_form inputs [] start end value n s e = absurd (omega arith)
 row_form inputs (c ∷ cs) [] end value n s e = absurd (omega arith)
 row_form inputs (c ∷ cs) (d ∷ ds) [] value n s e = absurd (omega arith)
 row_form inputs (c ∷ cs) (d ∷ ds) (f ∷ fs) value n s e = refl
 
-value_form : (inputs : List (List ℕ)) (name start value : List ℕ) → 0 < length name → 0 < length start → 0 < length value
+pub value_form : (inputs : List (List ℕ)) (name start value : List ℕ) → 0 < length name → 0 < length start → 0 < length value
     → form_said inputs name start [] value ≡ value_said inputs name start value
 value_form inputs [] start value n s v = absurd (omega arith)
 value_form inputs (c ∷ cs) [] value n s v = absurd (omega arith)
 value_form inputs (c ∷ cs) (d ∷ ds) [] n s v = absurd (omega arith)
 value_form inputs (c ∷ cs) (d ∷ ds) (f ∷ fs) n s v = refl
 
-no_value_form : (inputs : List (List ℕ)) (name start : List ℕ) → 0 < length name → 0 < length start
+pub no_value_form : (inputs : List (List ℕ)) (name start : List ℕ) → 0 < length name → 0 < length start
     → form_said inputs name start [] [] ≡ no_value_said inputs name start
 no_value_form inputs [] start n s = absurd (omega arith)
 no_value_form inputs (c ∷ cs) [] n s = absurd (omega arith)
 no_value_form inputs (c ∷ cs) (d ∷ ds) n s = refl
 
-known_form : (inputs : List (List ℕ)) (name end : List ℕ) → 0 < length name → 0 < length end
+pub known_form : (inputs : List (List ℕ)) (name end : List ℕ) → 0 < length name → 0 < length end
     → form_said inputs name [] end [] ≡ known_said inputs name end
 known_form inputs [] end n e = absurd (omega arith)
 known_form inputs (c ∷ cs) [] n e = absurd (omega arith)

@@ -8,11 +8,11 @@ use Rattle.tilt_text.proofs.Lacks.{Lacks}
 use Rattle.tilt_text.proofs.Words.{until-front, until-lone}
 
 -- the bytes up to the first comma, and the fields after it
-abbrev FirstWord : List ℕ → Option (List ℕ × List ℕ) → List (List ℕ) → List ℕ → Type 0
+abbrev pub FirstWord : List ℕ → Option (List ℕ × List ℕ) → List (List ℕ) → List ℕ → Type 0
 FirstWord word None found bytes = found ≡ (word ++ bytes) ∷ []
 FirstWord word (Some parts) found bytes = found ≡ (word ++ parts.0) ∷ words parts.1
 
-first_word : (word bytes : List ℕ) → FirstWord word (until_at 44 bytes) (words_from word bytes) bytes
+pub first_word : (word bytes : List ℕ) → FirstWord word (until_at 44 bytes) (words_from word bytes) bytes
 first_word word [] = rw append-nil refl
 first_word word (c ∷ bytes) = by (c == 44) (until_at 44 bytes) (first_word (word ++ (c ∷ [])) bytes)
   where

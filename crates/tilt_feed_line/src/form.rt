@@ -140,7 +140,7 @@ fn read_all_known(end: &[u8]) -> Result<Line, LineFault>
 }
 
 // The number of the input with the name, counted from 0.
-fn find_input(inputs: &[Name], name: &[u8]) -> Result<u32, LineFault>
+pub(crate) fn find_input(inputs: &[Name], name: &[u8]) -> Result<u32, LineFault>
     requires { length inputs.now < 2 ^ 32 }
     ensures { result ≡ input_named inputs.now name.now }
 {

@@ -26,6 +26,7 @@ mod key;
 mod law;
 mod line;
 mod plain;
+mod quick;
 mod reader;
 mod record;
 mod row;

@@ -1,5 +1,5 @@
-// Lines without quotes, as nearly all are. They are split at their commas, which takes no memory and far less time than a reader of the
-// crate `csv`.
+// Lines without quotes that aren't read in one pass, such as a watermark of all inputs. They are split at their commas, which takes no
+// memory and far less time than a reader of the crate `csv`.
 ghost use Rattle.std.specs.Prelude.{◌≡◌, ◌≢◌, ◌<◌, ◌≤◌, ◌^◌, [], ◌∷◌, length, IsTrue, IsSome, IfSome, MatchOption};
 ghost use Rattle.std.specs.List.{list_any};
 ghost use Rattle.csv.specs.Reading.{default_config, records, strip_bom};
@@ -23,7 +23,7 @@ pub(crate) fn plain_part(line: &[u8]) -> Option<&[u8]>
 }
 
 // The bytes without a CR at their end.
-fn without_return(bytes: &[u8]) -> &[u8]
+pub(crate) fn without_return(bytes: &[u8]) -> &[u8]
     ensures { result.now ≡ without_return bytes.now }
 {
     let Some((last, front)) = bytes.split_last() else {
@@ -33,7 +33,7 @@ fn without_return(bytes: &[u8]) -> &[u8]
 }
 
 // Whether there are bytes, none of them special, and the first isn't that of a byte order mark.
-fn is_plain(bytes: &[u8]) -> bool
+pub(crate) fn is_plain(bytes: &[u8]) -> bool
     ensures { result ≡ is_plain bytes.now }
 {
     match bytes {

@@ -2,6 +2,7 @@
 use crate::fault::{LineFault, ReadLineFault};
 use crate::line::{KeyedLine, Line};
 use crate::plain::{plain_part, read_keyed_words, read_words};
+use crate::quick::{read_quick_keyed_line, read_quick_line};
 use crate::record::read_one_record;
 use crate::row::{read_keyed_row, read_row};
 use csv::ByteRecord;
@@ -42,6 +43,9 @@ impl LineReader {
         ensures input { IfOk result (IsOfInputs (length inputs.now)) }
         ensures memory { IsTrue (is_plain (without_return line.now)) → result ≢ Err ReadLineFault.OutOfMemory }
     {
+        if let Some(said) = read_quick_line(line, inputs) {
+            return Ok(said);
+        }
         match plain_part(line) {
             Some(part) => Ok(read_words(part, inputs)?),
             None => self.read_record(line, inputs),
@@ -70,6 +74,9 @@ impl LineReader {
         ensures input { IfOk result (KeyedIsOfInputs (length inputs.now)) }
         ensures memory { IsTrue (is_plain (without_return line.now)) → result ≢ Err ReadLineFault.OutOfMemory }
     {
+        if let Some(said) = read_quick_keyed_line(line, inputs) {
+            return Ok(said);
+        }
         match plain_part(line) {
             Some(part) => Ok(read_keyed_words(part, inputs)?),
             None => self.read_keyed_record(line, inputs),
