@@ -84,16 +84,16 @@ named_input inputs name input other is =
     by None same is = cc is
 
 -- a number after a minus
-minus_within : (n : ℕ) → n < 10 ^ 18 → within_64_bits (neg_ℤ (pos n)) ≡ Some (neg_ℤ (pos n))
+minus_within : (n : ℕ) → n < 2 ^ 63 → within_64_bits (neg_ℤ (pos n)) ≡ Some (neg_ℤ (pos n))
 minus_within zero small = refl
 minus_within (suc n) small = grind (arith, nat_tests)
 
-pub minus_before : (digits rest : List ℕ) (n : ℕ) → n < 10 ^ 18 → DigitsBefore digits n rest
+pub minus_before : (digits rest : List ℕ) (n : ℕ) → n < 2 ^ 63 → DigitsBefore digits n rest
     → CellBefore (45 ∷ digits) (Some (neg_ℤ (pos n))) rest
 minus_before digits rest n small found =
     (45 ∷ found.0, ap (λ (r : List ℕ). 45 ∷ r) found.1, rw (found.2, minus_within n small) refl)
 
-pub minus_here : (bytes rest : List ℕ) (n : ℕ) → 1 ≤ length bytes → get_or bytes 0 0 ≡ 45 → n < 10 ^ 18
+pub minus_here : (bytes rest : List ℕ) (n : ℕ) → 1 ≤ length bytes → get_or bytes 0 0 ≡ 45 → n < 2 ^ 63
     → DigitsBefore (take (length bytes - 1) (drop 1 bytes)) n rest → CellBefore bytes (Some (neg_ℤ (pos n))) rest
 minus_here [] rest n h sign small found = absurd (omega arith)
 minus_here (b ∷ bs) rest n h sign small found =

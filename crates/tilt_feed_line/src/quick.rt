@@ -13,8 +13,11 @@ use tilt_feed::Update;
 use tilt_lexer::Name;
 use tilt_text::until;
 
-// At most so many bytes are read as digits and the comma after them. 18 digits spell a number below 2^63, whichever they are.
+// At most so many digits are read. They spell a number below 2^64, whichever they are.
 const MOST: usize = 19;
+
+// The numbers below it are of 64 bits with a sign.
+const LIMIT: u64 = 1 << 63;
 
 // What a line says in a feed without keys. `None` says nothing of the line.
 #[inline]
@@ -81,7 +84,7 @@ fn update_of(start: Cell, end: Cell, value: Cell) -> Option<Update>
     }
 }
 
-// The cell that the bytes before the first comma spell, if it has at most 18 digits and no plus, and the bytes after that comma.
+// The cell that the bytes before the first comma spell, if it has at most 19 digits and no plus, and the bytes after that comma.
 #[inline]
 fn cell_before(bytes: &[u8]) -> Option<(Cell, &[u8])>
     ensures { IfSome result (λ parts. CellBefore bytes.now parts.0 parts.1.now) }
@@ -105,17 +108,17 @@ fn cell_before(bytes: &[u8]) -> Option<(Cell, &[u8])>
 // The number with a minus.
 #[inline]
 fn negative(number: u64) -> i64
-    requires { number < 10 ^ 18 }
+    requires { number < 2 ^ 63 }
     ensures { result ≡ neg_ℤ (pos number) }
 {
     -(number as i64)
 }
 
-// The number that one to 18 digits before a comma spell, and the bytes after that comma.
+// The number below 2^63 that one to 19 digits before a comma spell, and the bytes after that comma.
 #[inline]
 fn digits_before(bytes: &[u8]) -> Option<(u64, &[u8])>
     ensures value { IfSome result (λ parts. DigitsBefore bytes.now parts.0 parts.1.now) }
-    ensures small { IfSome result (λ parts. parts.0 < 10 ^ 18) }
+    ensures small { IfSome result (λ parts. parts.0 < 2 ^ 63) }
 {
     let mut number = 0;
     for at in 0..bytes.len().min(MOST) {
@@ -128,5 +131,8 @@ fn digits_before(bytes: &[u8]) -> Option<(u64, &[u8])>
         }
         number = number * 10 + u64::from(byte - b'0');
     }
-    None
+    if bytes.len() <= MOST || bytes[MOST] != b',' || number >= LIMIT {
+        return None;
+    }
+    Some((number, &bytes[MOST + 1..]))
 }

@@ -1,8 +1,10 @@
-use Rattle.std.proofs.Common.{◌≡◌, ◌+◌, ◌^◌, ◌<◌, length, get_or, true, add-one, refl, sym, arith, rules}
+use Rattle.std.proofs.Common.{◌≡◌, ◌+◌, ◌^◌, ◌<◌, length, take, get_or, true, add-one, refl, sym, subst, arith, rules}
 use Rattle.std.proofs.lemmas.Int.Digits.{digits_value_more}
 use Rattle.std.proofs.lemmas.List.{take_rest}
 use Rattle.std.proofs.lemmas.Str.{digit_value_digit}
 use Rattle.std.specs.Char.{digit_value, is_ascii_digit}
+use Rattle.std.specs.Str.{all_ascii_digits}
+use Rattle.std.specs.Str.Parse.{digits_value}
 use Rattle.tilt_base.proofs.Spelling.{few_digits}
 use Rattle.tilt_feed_line.proofs.AtOnce.{digit_fits, digits_found, digits_more}
 use Rattle.tilt_feed_line.proofs.quick.digits_before.Goals as goal
@@ -16,7 +18,19 @@ returns-then-not-is_ascii_digit-clause-value c =
 
 pub returns-then-not-is_ascii_digit-clause-small : goal.returns-then-not-is_ascii_digit-clause-small
 returns-then-not-is_ascii_digit-clause-small c =
-    few_digits c.loop-at.number c.loop-at.at 18 (omega (arith, c.min-at-end.ensures)) c.loop-at.invariant.small
+    omega (arith, few_digits c.loop-at.number c.loop-at.at 18 (omega (arith, c.min-at-end.ensures)) c.loop-at.invariant.small)
+
+pub returns-clause-value : goal.returns-clause-value
+returns-clause-value c =
+    let bytes = c.args.bytes.now in
+    let is : c.loop-at.at ≡ 19 = omega (arith, c.min-at-end.ensures, c.loop-at.auto.at-end, c.loop-at-test.false, c.if-bytes-le-MOST.false) in
+    let comma : get_or bytes 19 0 ≡ 44 = grind arith in
+    digits_found bytes _ 19 c.loop-at.number (omega arith) (omega (arith, c.if-bytes-le-MOST.false)) comma
+    (subst (λ at. all_ascii_digits (take at bytes) ≡ true) is c.loop-at.invariant.digits)
+    (subst (λ at. digits_value 10 (take at bytes) ≡ c.loop-at.number) is c.loop-at.invariant.value) (take_rest bytes 20)
+
+pub returns-clause-small : goal.returns-clause-small
+returns-clause-small c = omega (arith, c.if-number-ge-LIMIT.false)
 
 pub overflow_mul-number : goal.overflow_mul-number
 overflow_mul-number c =
