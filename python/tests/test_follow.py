@@ -741,3 +741,56 @@ def test_a_broker(tilt, live, tmp_path):
         for process in begun:
             process.kill()
             process.wait()
+
+
+def test_each_row_is_published(tilt, live, tmp_path):
+    """At least once, if the command is killed, alone or with its programs."""
+    broker, subscribe, publish = map(program, ("mosquitto", "mosquitto_sub", "mosquitto_pub"))
+    lines, wanted = lay_out(tmp_path)
+    draws, port = random.Random(6), str(free_port())
+    (tmp_path / "conf").write_text(f"listener {port} 127.0.0.1\nallow_anonymous true\nmax_queued_messages 0\n")
+    quiet = {"stdout": subprocess.DEVNULL, "stderr": subprocess.DEVNULL}
+    url = f"mqtt://127.0.0.1:{port}/"
+    words = ["--state", "s", "--log", "log", "--quiet", "--mqtt", f"{url}rows"]
+    begun = [subprocess.Popen([broker, "-c", str(tmp_path / "conf")], **quiet)]
+    try:
+        wait_for(lambda: subprocess.run([publish, "-L", f"{url}other", "-m", "x"], **quiet).returncode == 0)
+        with open(tmp_path / "got", "ab") as got:
+            begun.append(subprocess.Popen([subscribe, "-L", f"{url}rows", "-q", "1"], stdout=got))
+        time.sleep(0.5)
+        for part in range(10):
+            with open(tmp_path / "log", "a") as log:
+                log.write("".join(lines[part * len(lines) // 10 : (part + 1) * len(lines) // 10]))
+            process = follow(tmp_path, *words, **quiet)
+            begun.append(process)
+            time.sleep(draws.uniform(0, 0.6))
+            os.killpg(process.pid, signal.SIGKILL) if part % 2 else process.kill()
+            process.wait()
+        assert done(follow(tmp_path, *words, "--end"))[::2] == (0, "")
+        assert output(tmp_path) == wanted and (tmp_path / "s" / "published").read_text() == str(len(wanted))
+        rows = wanted.splitlines()[1:]
+        wait_for(lambda: set((tmp_path / "got").read_text().splitlines()) == set(rows))
+    finally:
+        for process in begun:
+            process.kill()
+            process.wait()
+
+
+def test_rows_that_no_broker_took_are_published_by_the_next_call(tilt, live, tmp_path):
+    simple(tmp_path)
+    (tmp_path / "mosquitto_pub").write_text('#!/bin/sh\n[ -e there ] || exit 5\necho "$@" > words; cat >> rows\n')
+    (tmp_path / "mosquitto_pub").chmod(0o755)
+    env = {**BEGUN, "PATH": f"{tmp_path}:{BEGUN['PATH']}"}
+
+    def called(given: str) -> tuple[int, str, str]:
+        pipes = {"stdin": subprocess.PIPE, "stdout": subprocess.PIPE, "stderr": subprocess.PIPE}
+        return done(forked([*COMMAND[3:], *bounds_for(tmp_path / "q"), "--mqtt", "a/b"], env, cwd=tmp_path, **pipes), given)
+
+    told = "tilt-data: mosquitto_pub ended with status 5, and is called again\n"
+    told += "tilt-data: --mqtt: not all rows are published: the next call begins with those that aren't\n"
+    status, out, err = called("".join(LINES[:3]))
+    assert (status, out) == (1, "start,end,value\n0,1,0\n1,2,1\n2,3,2\n") and err.endswith(told)
+    (tmp_path / "there").write_text("")
+    assert called(LINES[3]) == (0, "3,4,3\n", "")
+    assert (tmp_path / "rows").read_text() == "".join(line[2:] for line in LINES[:4])
+    assert (tmp_path / "words").read_text() == "-t a/b -q 1 -l\n"

@@ -404,6 +404,16 @@ def sync(path: str) -> None:
         os.close(number)
 
 
+def replace(path: str, text: str) -> None:
+    """Replaces a file whole. The new one that a kill leaves is written again."""
+    with failing_at(path):
+        with open(f"{path}.new", "w", encoding="utf-8") as file:
+            file.write(text)
+        sync(f"{path}.new")
+        os.replace(f"{path}.new", path)
+        sync(os.path.dirname(path))
+
+
 def sync_new(begun: tuple[str, str]) -> None:
     """Brings a new file to the disk; what is written as it stands isn't replaced, and has no need of it."""
     path, new = begun

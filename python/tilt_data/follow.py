@@ -23,8 +23,9 @@ from .arrivals import LONGEST
 from .clock import UNITS, duration_of, moment_text
 from .convention import TextConvention
 from .errors import Refused, note, printable
-from .files import failing_at, locked, standard_input, sync, writing
+from .files import failing_at, locked, replace, standard_input
 from .grammar import inputs_in
+from .handed import Output, Published, Shown
 from .program import call, program
 from .version import VERSION
 from .why import check, text_of
@@ -66,15 +67,13 @@ def add(commands: Any) -> None:
     option("--skip-bad", action="store_true", help="a line that can't be taken is reported and skipped")
     option("--quiet", action="store_true", help="print nothing: output.csv has it")
     option("--exec", metavar="COMMAND", help="call it by sh for each row, at least once: start, end and value are $1, $2 and $3")
+    option("--mqtt", metavar="TOPIC", help="publish each row by mosquitto_pub, at least once: a topic, or mqtt://USER@HOST:PORT/TOPIC")
     option("--clock", metavar="DURATION", help="readings: each second, all inputs become known up to now less so much")
     option("--begun", action="store_true", help="print also what has begun, as start,,value")
     option("--times", action="store_true", help="readings: write times as dates")
     option("--whole", action="store_true", help="the query and its output are in whole numbers, as for `tilt`")
-    option(
-        "--bounds",
-        metavar="BOUNDS",
-        help="the values of inputs, as NAME=LOW:HIGH,.. in their units, which show that no result leaves 64 bits",
-    )
+    bounds = "the values of inputs, as NAME=LOW:HIGH,.. in their units, which show that no result leaves 64 bits"
+    option("--bounds", metavar="BOUNDS", help=bounds)
     for name, text in NUMBERS.items():
         option(f"--{name}", metavar="N", type=number, help=text)
     TextConvention.add_to(parser, lasting=True)
@@ -268,16 +267,6 @@ class Log(Source):
         return os.fstat(self.file.fileno()).st_size > self.file.tell() or self.following() is not None
 
 
-def replace(path: str, text: str) -> None:
-    """Replaces a file whole. The new one that a kill leaves is written again."""
-    with failing_at(path):
-        with open(f"{path}.new", "w", encoding="utf-8") as file:
-            file.write(text)
-        sync(f"{path}.new")
-        os.replace(f"{path}.new", path)
-        sync(os.path.dirname(path))
-
-
 class Feed:
     """What was taken so far: a file with the feed from the byte `base` on."""
 
@@ -415,52 +404,29 @@ class Live:
         return process.wait()
 
 
-class Shown:
-    """The rows that are committed: they are printed, and a command is called for each."""
-
-    def __init__(self, folder: str, quiet: bool, command: str | None) -> None:
-        self.folder, self.quiet, self.command = folder, quiet, command
-        self.path, self.seen, self.at = os.path.join(folder, "shown"), (0, 0), 0
-        with contextlib.suppress(FileNotFoundError), open(self.path, encoding="ascii") as file:
-            self.at = int(file.read())
-
-    def show(self) -> None:
-        """Hands on what was committed since. The second line of the state says how much of the output that is."""
-        with contextlib.suppress(FileNotFoundError), open(os.path.join(self.folder, "state"), "rb") as state:
-            found, before = os.fstat(state.fileno()), self.seen
-            self.seen = found.st_ino, found.st_mtime_ns
-            if self.seen != before:
-                committed = int(state.readlines()[1])
-                with open(os.path.join(self.folder, "output.csv"), "rb") as output:
-                    output.seek(self.at)
-                    self.hand_on(output.read(max(0, committed - self.at)).decode("ascii"))
-
-    def hand_on(self, text: str) -> None:
-        for piece in text.splitlines(True) if self.command is not None else [text] if text else []:
-            if not self.quiet:
-                with writing(None) as out:
-                    out.write(piece)
-            if self.command is not None and self.at:
-                done = subprocess.run(["sh", "-c", self.command, "sh", *piece.strip().split(",")], stdin=subprocess.DEVNULL)
-                if done.returncode:
-                    raise Refused(f"--exec: it ended with status {done.returncode} for {piece.strip()}, which it gets again next time")
-            self.at += len(piece)
-            replace(self.path, str(self.at))
-
-
 class Follower:
     def __init__(self, words: argparse.Namespace) -> None:
         self.words, options = words, options_of(words)
         self.feed = Feed(words.state)
         self.live = Live([words.query, *options], self.feed, words.every)
-        self.shown = Shown(words.state, words.quiet, words.exec)
+        self.output = Output(words.state)
+        self.shown = Shown(self.output, words.quiet, words.exec)
+        self.published = None if words.mqtt is None else Published(self.output, words.mqtt)
         self.header = HEADER if "--time" in options and not self.feed.length else b""
         self.lag = None if words.clock is None else duration_of(words.clock)
         self.came = time.monotonic()
         self.due = self.came + BEAT
 
     def follow(self) -> int:
-        """Takes what comes, until the source ends: the status. The program starts before that: it rejects a bad query, other options, and a
+        """Takes what comes, until the source or the program ends: the status of the program."""
+        try:
+            self.take_all()
+            return self.live.finish()
+        except Ended as ended:
+            return int(str(ended))
+
+    def take_all(self) -> None:
+        """Takes what comes, until the source ends. The program starts before that: it rejects a bad query, other options, and a
         folder that was changed."""
         words, feed, live = self.words, self.feed, self.live
         live.start()
@@ -476,7 +442,7 @@ class Follower:
                 self.take(self.watermark(time.time_ns() - self.lag), feed.place)
             if live.has_ended():
                 live.revive()
-            self.shown.show()
+            self.hand_on()
             if feed.is_long():
                 live.revive()
         rest = source.rest
@@ -484,12 +450,31 @@ class Follower:
             self.take((source.take(len(rest)) + b"\n" if rest else b"") + b",,,\n", source.place, ended=True)
         elif rest:
             note(f"the last line has no end, and isn't taken without --end: {printable(rest[:200].decode(errors='backslashreplace'))}")
-        return live.finish()
 
     def take(self, text: bytes, place: Place, ended: bool = False) -> None:
         self.feed.add(text, place, ended)
         self.live.give(text)
         self.came = time.monotonic()
+
+    def hand_on(self) -> None:
+        self.output.look()
+        self.shown.hand_on()
+        if self.published is not None:
+            self.published.hand_on()
+
+    def finish(self) -> None:
+        """Hands on what is left, once the program has ended."""
+        self.hand_on()
+        if self.published is not None:
+            self.published.finish()
+
+    def end(self) -> None:
+        """Ends the programs, whatever happened. What they haven't done comes with the next call."""
+        try:
+            self.live.end()
+        finally:
+            if self.published is not None:
+                self.published.end()
 
     def watermark(self, moment: int) -> bytes:
         text = moment_text(moment, 9) if self.words.unit is None else str(moment // UNITS[self.words.unit])
@@ -502,13 +487,11 @@ def main(words: argparse.Namespace) -> int:
         if follower.feed.ended:
             note(f"{words.state} was ended before: {words.state}/output.csv has all")
         status = 0 if follower.feed.ended else follower.follow()
-    except Ended as ended:
-        status = int(str(ended))
+        follower.finish()
     except BrokenPipeError:
         raise
     except OSError as error:
         raise Refused(f"{error.filename or words.state}: {error.strerror or error}") from error
     finally:
-        follower.live.end()
-    follower.shown.show()
+        follower.end()
     return status if status >= 0 else 128 - status
