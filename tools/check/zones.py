@@ -5,7 +5,8 @@
 Both read the files of the system's time zone database; of files with the same bytes, one is taken. For each zone it looks for the
 transitions from 1970 to 2037. It asks for the local times a second before, at and after both edges of the clocks' change, and for the
 moments around it. Random local times come on top. A local time is shown at a moment if `zoneinfo` shows it there: of the moments of its
-two folds, those whose local time is the one that was asked for. Nothing here knows how the program searches.
+two folds, those whose local time is the one that was asked for. If there is none, a fold still gives the moment that `zoneinfo` gives.
+Nothing here knows how the program searches.
 
 The last line is 'N passed, M failed', and the status is 1 where one failed."""
 from __future__ import annotations
@@ -55,11 +56,15 @@ def local_at(zone: zoneinfo.ZoneInfo, moment: int) -> int:
     return moment + offset_at(zone, moment)
 
 
+def moments_by_fold(zone: zoneinfo.ZoneInfo, local: int) -> list[int]:
+    """The moments of a local time with the first fold and with the second one."""
+    naive = (EPOCH + datetime.timedelta(seconds=local)).replace(tzinfo=None)
+    return [(naive.replace(tzinfo=zone, fold=fold).astimezone(UTC) - EPOCH) // SECOND for fold in (0, 1)]
+
+
 def moments_of(zone: zoneinfo.ZoneInfo, local: int) -> list[int]:
     """The moments at which clocks show a local time, in order."""
-    naive = (EPOCH + datetime.timedelta(seconds=local)).replace(tzinfo=None)
-    moments = {(naive.replace(tzinfo=zone, fold=fold).astimezone(UTC) - EPOCH) // SECOND for fold in (0, 1)}
-    return sorted(moment for moment in moments if local_at(zone, moment) == local)
+    return sorted(moment for moment in set(moments_by_fold(zone, local)) if local_at(zone, moment) == local)
 
 
 def answer_to_local(zone: zoneinfo.ZoneInfo, local: int) -> str:
@@ -67,6 +72,13 @@ def answer_to_local(zone: zoneinfo.ZoneInfo, local: int) -> str:
     if not moments:
         return "skipped skipped skipped"
     return f"{moments[0] if len(moments) == 1 else 'doubled'} {moments[0]} {moments[-1]}"
+
+
+def answer_to_taken(zone: zoneinfo.ZoneInfo, local: int) -> str:
+    if moments_of(zone, local):
+        return answer_to_local(zone, local)
+    first, second = moments_by_fold(zone, local)
+    return f"skipped {first} {second}"
 
 
 def transitions_of(zone: zoneinfo.ZoneInfo) -> Iterator[int]:
@@ -105,6 +117,8 @@ class Questions:
     def ask_local(self, zone: zoneinfo.ZoneInfo, local: int) -> None:
         self.lines.append(f"local {local}")
         self.wanted.append(answer_to_local(zone, local))
+        self.lines.append(f"taken {local}")
+        self.wanted.append(answer_to_taken(zone, local))
 
     def ask_moment(self, zone: zoneinfo.ZoneInfo, moment: int) -> None:
         self.lines.append(f"moment {moment}")

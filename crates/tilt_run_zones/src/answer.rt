@@ -15,6 +15,17 @@ pub(crate) fn answer_local<W: Write>(zone: &Zone, local: i64, out: &mut W) -> Re
     Ok(())
 }
 
+// Prints the moments that a local time is taken for.
+pub(crate) fn answer_taken<W: Write>(zone: &Zone, local: i64, out: &mut W) -> Result<(), Fail> {
+    print(zone.moment_taken(local, None), out)?;
+    write!(out, " ")?;
+    print(zone.moment_taken(local, Some(Fold::First)), out)?;
+    write!(out, " ")?;
+    print(zone.moment_taken(local, Some(Fold::Second)), out)?;
+    writeln!(out)?;
+    Ok(())
+}
+
 // Prints the local time at a moment.
 pub(crate) fn answer_moment<W: Write>(zone: &Zone, moment: i64, out: &mut W) -> Result<(), Fail> {
     print(zone.local_of(moment).ok_or(LocalFault::Beyond), out)?;

@@ -2,13 +2,14 @@
 //!
 //! Each line of standard input is a question. `zone PATH` reads the file of a zone, for the questions after it; `read` is printed, or why
 //! there is no zone. `local N` asks for the moments at which clocks show the local time `N`, in seconds. What is printed is the moment that
-//! is meant without a fold, with the first one and with the second one. `moment N` asks for the local time that clocks show at the moment
-//! `N`. In place of a number, `skipped`, `doubled` or `beyond` says why there is none.
+//! is meant without a fold, with the first one and with the second one. `taken N` asks the same, and then a fold gives a moment to a
+//! local time that clocks skip too. `moment N` asks for the local time that clocks show at the moment `N`. In place of a number, `skipped`,
+//! `doubled` or `beyond` says why there is none.
 #![tactic(auto)]
 
 mod answer;
 
-use answer::{answer_local, answer_moment};
+use answer::{answer_local, answer_moment, answer_taken};
 use std::fs;
 use std::io::{self, BufRead, BufReader, BufWriter, Write};
 use std::test::Fail;
@@ -58,6 +59,7 @@ fn take_question<W: Write>(
     let number = number.parse()?;
     match question {
         "local" => answer_local(zone, number, out),
+        "taken" => answer_taken(zone, number, out),
         "moment" => answer_moment(zone, number, out),
         _ => Err("no such question".into()),
     }

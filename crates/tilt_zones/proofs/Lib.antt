@@ -3,3 +3,5 @@ pub mod OutcomeLemmas
 pub mod PlaceLemmas
 pub mod ShownLemmas
 pub mod TableLemmas
+pub mod TakenLemmas
+pub mod TakenMoments

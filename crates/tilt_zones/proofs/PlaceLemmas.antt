@@ -29,10 +29,10 @@ high a z up = grind (arith, ints)
 least : (a b z : ℤ) → a ≤ℤ b → int_le b z ≡ true → int_le a z ≡ true
 least a b z low up = grind (arith, ints)
 
-before : (m z : ℤ) → m <ℤ z → int_lt m z ≡ true
+pub before : (m z : ℤ) → m <ℤ z → int_lt m z ≡ true
 before m z less = grind (arith, ints)
 
-after : (m z : ℤ) → z ≤ℤ m → int_lt m z ≡ false
+pub after : (m z : ℤ) → z ≤ℤ m → int_lt m z ≡ false
 after m z less = grind (arith, ints)
 
 -- what rises from each place to the next rises over all places
@@ -95,7 +95,7 @@ later_place key t ts z count place = record {
 }
 
 -- the offset after more than one transition doesn't depend on the first one
-after_first : (first : ℤ) (t : Transition) (ts : List Transition) (count : ℕ)
+pub after_first : (first : ℤ) (t : Transition) (ts : List Transition) (count : ℕ)
     → offset_after t.offset ts count ≡ offset_after first (t ∷ ts) (suc count)
 after_first first t ts zero = refl
 after_first first t ts (suc count) = refl

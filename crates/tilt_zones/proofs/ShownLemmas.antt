@@ -11,7 +11,7 @@ use Rattle.tilt_zones.specs.declared.moments.Fold.TheVariants.{First, Second}
 use Rattle.tilt_zones.specs.declared.transition.Transition.{Transition}
 
 -- which side of a number another one is on
-side : (j count : ℕ) → (suc j ≤ count) ⊎ (count ≤ j)
+pub side : (j count : ℕ) → (suc j ≤ count) ⊎ (count ≤ j)
 side j count = grind arith
 
 either : (j n count : ℕ) → j ≤ count → count ≤ suc j → suc n ≡ count → (j ≡ n) ⊎ (j ≡ count)
@@ -142,7 +142,7 @@ last_two first ts local moment count n last one =
     either one.after n count low high last
 
 -- the moment by the offset before the last transition is the earlier one
-earlier_first : (first : ℤ) (ts : List Transition) (local m k : ℤ) (count n : ℕ) → IsPlaceOf shown_from ts local count → suc n ≡ count
+pub earlier_first : (first : ℤ) (ts : List Transition) (local m k : ℤ) (count n : ℕ) → IsPlaceOf shown_from ts local count → suc n ≡ count
     → IsBeforeNext first ts n local → m ≡ local -ℤ offset_after first ts n → k ≡ local -ℤ offset_after first ts count → m <ℤ k
 earlier_first first ts local m k count n place last next m_is k_is =
     let bound = place.bound in
@@ -191,11 +191,11 @@ are_moments_next first ts end local count n (Some m) (Some k) order place last s
       ],
 )
 
-side_of : (j count : ℕ) → j ≤ count → count ≤ suc j → (suc j ≡ count) ⊎ (j ≡ count)
+pub side_of : (j count : ℕ) → j ≤ count → count ≤ suc j → (suc j ≡ count) ⊎ (j ≡ count)
 side_of j count low high = grind arith
 
 -- of two moments at which a local time is shown, the one before the last transition is the earlier one
-before_last : (first : ℤ) (ts : List Transition) (local m k : ℤ) (count : ℕ) → IsPlaceOf shown_from ts local count
+pub before_last : (first : ℤ) (ts : List Transition) (local m k : ℤ) (count : ℕ) → IsPlaceOf shown_from ts local count
     → (one : IsOneOf first ts local m count) → suc one.after ≡ count → (other : IsOneOf first ts local k count) → other.after ≡ count
     → m <ℤ k
 before_last first ts local m k count place one last other at =
@@ -204,7 +204,7 @@ before_last first ts local m k count place one last other at =
     earlier_first first ts local m k count one.after place last one.next one.moment_is (omega (arith, ints))
 
 -- two moments after as many transitions are the same
-same_after : (first : ℤ) (ts : List Transition) (local m k : ℤ) (count : ℕ) (one : IsOneOf first ts local m count) (other : IsOneOf first ts local k count)
+pub same_after : (first : ℤ) (ts : List Transition) (local m k : ℤ) (count : ℕ) (one : IsOneOf first ts local m count) (other : IsOneOf first ts local k count)
     → one.after ≡ other.after → m ≡ k
 same_after first ts local m k count one other at =
     let offset = ap (offset_after first ts) at in

@@ -1,4 +1,5 @@
 pub mod Order
 pub mod Place
 pub mod Table
+pub mod Taken
 pub mod Zone

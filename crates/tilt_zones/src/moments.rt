@@ -1,18 +1,21 @@
 // At which moments clocks show a local time.
-ghost use Rattle.std.specs.Prelude.{◌≡◌, ℤ};
+ghost use Rattle.std.specs.Prelude.{◌≡◌, ◌-ℤ◌, ℤ};
 ghost use Rattle.tilt_zones.specs.Order.{IsInOrder};
 ghost use Rattle.tilt_zones.specs.Place.{AreMoments, chosen, moments_from};
+ghost use Rattle.tilt_zones.specs.Taken.{IsByOffset, moment_by};
+ghost use Rattle.tilt_zones.specs.Zone.{IsSkipped};
 
 use crate::fault::LocalFault;
+use crate::order::offset_after;
 use crate::place::{count_from, moment_after};
 use crate::transition::Transition;
 
-/// Which moment is meant by a local time that clocks show twice.
+/// Which moment is meant by a local time that clocks show twice or skip.
 #[derive(Clone, Copy, Debug, PartialEq, Eq)]
 pub enum Fold {
-    /// The earlier one.
+    /// The one by the offset before the change: the earlier one of a local time that is shown twice.
     First,
-    /// The later one.
+    /// The one by the offset after the change: the later one of a local time that is shown twice.
     Second,
 }
 
@@ -60,4 +63,25 @@ pub(crate) fn chosen(moments: Moments, fold: Option<Fold>) -> Result<i128, Local
         (Moments::Twice(first, _), Some(Fold::First)) => Ok(first),
         (Moments::Twice(_, second), Some(Fold::Second)) => Ok(second),
     }
+}
+
+// The moment of a local time that clocks skip, by the offset before the change or after it.
+pub(crate) fn moment_by(first: i32, transitions: &[Transition], local: i64, fold: Fold) -> i128
+    requires order { IsInOrder first transitions.now }
+    requires skipped { (end : ℤ) → IsSkipped (record { first = first; transitions = transitions.now; end = end }) local }
+    ensures by { (end : ℤ) → result ≡ moment_by (record { first = first; transitions = transitions.now; end = end }) fold local }
+    ensures offset { (end : ℤ) → IsByOffset (record { first = first; transitions = transitions.now; end = end }) local fold result }
+{
+    let count = count_from(transitions, i128::from(local));
+    match fold {
+        Fold::First => moment_of(local, offset_after(first, transitions, count)),
+        Fold::Second => moment_of(local, offset_after(first, transitions, count + 1)),
+    }
+}
+
+// The moment at which clocks that are so far ahead show a local time.
+fn moment_of(local: i64, offset: i32) -> i128
+    ensures { result ≡ local -ℤ offset }
+{
+    i128::from(local) - i128::from(offset)
 }

@@ -1,14 +1,16 @@
 // A zone, and the two ways between moments and local times.
-ghost use Rattle.std.specs.Prelude.{◌≡◌, ◌↔◌, ◌≤ℤ◌, ◌<ℤ◌, ◌⊎◌, FitsSigned, IfOk, IfSome, IsNone, MatchResult};
+ghost use Rattle.std.specs.Prelude.{◌≡◌, ◌↔◌, ◌≤ℤ◌, ◌<ℤ◌, ◌⊎◌, FitsSigned, IfOk, IfSome, IsNone, MatchResult, Some};
 ghost use Rattle.std.specs.Int.{w64};
 ghost use Rattle.tilt_zones.specs.Order.{IsInOrder};
+ghost use Rattle.tilt_zones.specs.Taken.{IsByOffset, IsOfSkipped, moment_by, moment_taken};
 ghost use Rattle.tilt_zones.specs.Zone.{IsBeyond, IsDoubled, IsKnown, IsMomentOf, IsShownAt, IsSkipped, local_at, offset_at};
 
 use crate::fault::{LocalFault, ZoneFault};
-use crate::moments::{Fold, chosen, moments_of};
+use crate::moments::{Fold, chosen, moment_by, moments_of};
 use crate::order::{is_in_order, offset_after};
 use crate::place::count_at;
 use crate::transition::Transition;
+use std::alloc::{AllocError, Global};
 use std::marker::Model;
 
 /// What clocks of a place show: how far they are ahead of UTC before the first transition, and from each transition on. The transitions
@@ -79,6 +81,54 @@ impl Zone {
             Ok(moment) => known(moment, self.end),
             Err(fault) => Err(fault),
         }
+    }
+
+    /// The same, and with a fold a local time that clocks skip has a moment too. It is the one by the offset before the change for the
+    /// first fold, and the one by the offset after it for the second.
+    pub fn moment_taken(&self, local: i64, fold: Option<Fold>) -> Result<i64, LocalFault>
+        ensures taken { result ≡ moment_taken self.now local fold }
+        ensures moment { IfOk result (λ m. IsKnown self.now m
+            × (IsMomentOf self.now local fold m ⊎ (IsSkipped self.now local × IsOfSkipped self.now local fold m))) }
+        ensures skipped { (result ≡ Err LocalFault.Skipped) ↔ ((fold ≡ None) × IsSkipped self.now local) }
+        ensures doubled { (result ≡ Err LocalFault.Doubled) ↔ ((fold ≡ None) × IsDoubled self.now local) }
+    {
+        let _ = &self.first;
+        match self.moment_of_local(local, fold) {
+            Ok(moment) => Ok(moment),
+            Err(LocalFault::Skipped) => match fold {
+                Some(fold) => self.moment_by(local, fold),
+                None => Err(LocalFault::Skipped),
+            },
+            Err(LocalFault::Doubled) => Err(LocalFault::Doubled),
+            Err(LocalFault::Beyond) => Err(LocalFault::Beyond),
+        }
+    }
+
+    // The moment of a local time that clocks skip.
+    fn moment_by(&self, local: i64, fold: Fold) -> Result<i64, LocalFault>
+        requires { IsSkipped self.now local }
+        ensures by { MatchResult result
+            (λ m. (m ≡ moment_by self.now fold local) × IsKnown self.now m)
+            (λ e. (e ≡ LocalFault.Beyond) × (¬ (IsKnown self.now (moment_by self.now fold local)))) }
+        ensures offset { IsByOffset self.now local fold (moment_by self.now fold local) }
+    {
+        known(
+            moment_by(self.first, &self.transitions, local, fold),
+            self.end,
+        )
+    }
+
+    /// The same zone. `AllocError` comes if memory runs out, and for no other reason.
+    pub fn copy(&self, alloc: Global) -> Result<Zone, AllocError>
+        ensures { IfOk result (λ zone. zone ≡ self.now) }
+    {
+        let mut transitions = Vec::new(alloc);
+        transitions.extend_from_slice(&self.transitions)?;
+        Ok(Zone {
+            first: self.first,
+            transitions,
+            end: self.end,
+        })
     }
 }
 
