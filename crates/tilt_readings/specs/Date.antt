@@ -88,10 +88,13 @@ has_offset zone = is_utc zone || (nat_lt (pair_at zone 1) 24 && nat_lt (pair_at 
 abbrev pub offset_of : List ℕ → ℤ
 offset_of zone = if is_utc zone then pos 0 else signed (slice_index zone 0 == 45) (pair_at zone 1 * 3600 + pair_at zone 4 * 60)
 
--- the seconds since 1970 in UTC, without the fraction
+-- the seconds since 1970 on the clocks, without the fraction
+abbrev pub local_seconds : List ℕ → ℤ
+local_seconds text = days_from_civil (pos (year_of text)) (pair_at text 5) (pair_at text 8) *ℤ pos 86400 +ℤ pos (time_of text)
+
+-- the seconds since 1970 in UTC
 abbrev pub seconds_of : List ℕ → ℤ
-seconds_of text =
-    days_from_civil (pos (year_of text)) (pair_at text 5) (pair_at text 8) *ℤ pos 86400 +ℤ pos (time_of text) -ℤ offset_of (zone_of text)
+seconds_of text = local_seconds text -ℤ offset_of (zone_of text)
 
 -- from 0001-01-01 to 9999-12-31 in UTC
 abbrev pub is_in_years : ℤ → Bool

@@ -53,7 +53,7 @@ fn is_date(text: &[u8]) -> bool
 }
 
 // A text up to the seconds.
-fn without_zone(text: &[u8]) -> &[u8]
+pub(crate) fn without_zone(text: &[u8]) -> &[u8]
     requires { 19 ≤ length text.now }
     ensures { result.now ≡ take 19 text.now }
 {
@@ -61,7 +61,7 @@ fn without_zone(text: &[u8]) -> &[u8]
 }
 
 // Whether a text has a shape, byte by byte.
-fn has_shape(shape: &[u8], text: &[u8]) -> bool
+pub(crate) fn has_shape(shape: &[u8], text: &[u8]) -> bool
     ensures { result ≡ has_shape shape.now text.now }
 {
     match shape {
@@ -123,7 +123,7 @@ fn is_zone(zone: &[u8]) -> bool
 }
 
 // Whether there is no fraction, or a mark and one or more digits.
-fn is_fraction(fraction: &[u8]) -> bool
+pub(crate) fn is_fraction(fraction: &[u8]) -> bool
     ensures { result ≡ is_fraction fraction.now }
 {
     match fraction {
@@ -135,7 +135,7 @@ fn is_fraction(fraction: &[u8]) -> bool
 }
 
 // The nanoseconds of a fraction, or `None` if they aren't whole.
-fn nanoseconds_of(fraction: &[u8]) -> Option<u64>
+pub(crate) fn nanoseconds_of(fraction: &[u8]) -> Option<u64>
     requires { is_fraction fraction.now ≡ true }
     ensures { MatchOption result
         (nanoseconds_of fraction.now ≡ Err DecimalFault.NotWhole)
@@ -156,7 +156,7 @@ fn after_mark(fraction: &[u8]) -> &[u8]
 }
 
 // The number that the two digits at a place spell.
-fn pair_at(text: &[u8], at: usize) -> u32
+pub(crate) fn pair_at(text: &[u8], at: usize) -> u32
     requires { at + 1 < length text.now }
     ensures value { result ≡ pair_at text.now at }
     ensures small { result ≤ 2277 }
@@ -165,7 +165,7 @@ fn pair_at(text: &[u8], at: usize) -> u32
 }
 
 // The year.
-fn year_of(text: &[u8]) -> u32
+pub(crate) fn year_of(text: &[u8]) -> u32
     requires { 4 ≤ length text.now }
     ensures { result ≡ year_of text.now }
 {
@@ -173,7 +173,7 @@ fn year_of(text: &[u8]) -> u32
 }
 
 // The days since 1970 of a day that the calendar has, from the year 1 on; `None` if it has no such day.
-fn days_of(year: u32, month: u32, day: u32) -> Option<i64>
+pub(crate) fn days_of(year: u32, month: u32, day: u32) -> Option<i64>
     requires { year ≤ 9999 }
     ensures { MatchOption result
         (has_day year month day ≡ false)
@@ -201,7 +201,7 @@ fn last_day(year: u32, month: u32) -> u32
 }
 
 // Whether a clock shows the time of day.
-fn has_time(text: &[u8]) -> bool
+pub(crate) fn has_time(text: &[u8]) -> bool
     requires { 19 ≤ length text.now }
     ensures { result ≡ has_time text.now }
 {
@@ -217,7 +217,7 @@ fn has_clock(text: &[u8], zone: &[u8]) -> bool
 }
 
 // The seconds since midnight.
-fn time_of(text: &[u8]) -> u32
+pub(crate) fn time_of(text: &[u8]) -> u32
     requires { 19 ≤ length text.now }
     ensures value { result ≡ time_of text.now }
     ensures small { result ≤ 10_000_000 }
@@ -256,8 +256,9 @@ fn seconds_at(days: i64, time: u32, offset: i64) -> i64
     days * 86400 + i64::from(time) - offset
 }
 
-// The moment of so many seconds and nanoseconds since 1970, if it is in the years 1 to 9999.
-fn moment_of(seconds: i64, nanoseconds: u64) -> Result<i128, DateFault>
+/// The moment of so many seconds and nanoseconds since 1970-01-01T00:00:00Z, in nanoseconds since then. `OutOfYears` if the seconds are
+/// outside of the years 1 to 9999 in UTC.
+pub fn moment_of(seconds: i64, nanoseconds: u64) -> Result<i128, DateFault>
     ensures { result ≡ moment_of seconds (Ok (pos nanoseconds)) }
 {
     if -62_135_596_800 <= seconds && seconds < 253_402_300_800 {
