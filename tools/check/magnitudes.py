@@ -97,7 +97,8 @@ class Program:
 def promised(text: str, rows: Rows, scales: Mapping[str, int]) -> tuple[bytes, bytes] | None:
     """What the rules promise, or nothing if a number leaves 64 bits."""
     try:
-        return expected(text, rows, scales)
+        wanted = expected(text, rows, scales)
+        return wanted.out, wanted.err
     except Overflow:
         return None
 
