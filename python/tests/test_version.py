@@ -91,6 +91,7 @@ def test_one_place_defines_the_version() -> None:
 def test_pages_show_the_version() -> None:
     assert f"\nVersion {VERSION} · " in (TOP / "README.md").read_text()
     assert f"/tilt-stream_{VERSION}_amd64.deb" in (TOP / "docs" / "INSTALL.md").read_text()
+    assert (TOP / "docs" / "INSTALL.md").read_text().count(f"tilt_data-{VERSION}-py3-none-") == 2
     assert f'\n "version": "{VERSION}",\n' in (TOP / "docs" / "DATA.md").read_text()
 
 

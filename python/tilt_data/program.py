@@ -18,20 +18,22 @@ from .errors import Refused
 REFUSALS = (1, 2)
 TOP = pathlib.Path(__file__).resolve().parent.parent.parent
 FINDER = TOP / "tools" / "package" / "program"
+# The programs that tools/package/wheel.py puts beside the modules.
+PACKAGED = pathlib.Path(__file__).resolve().parent / "bin"
 # Of each program the variable that names it, its crate, and its names on the path.
 PROGRAMS = {"tilt": ("TILT", "tilt", ("tilt-stream", "tilt")), "tilt-live": ("TILT_LIVE", "tilt_live_program", ("tilt-live",))}
 
 
 def program(command: str = "tilt") -> str:
-    """The path of a program: what TILT or TILT_LIVE names, the one that was built in the checkout, the one that was released from its
-    sources, or the one on the path, of which `tilt` can be `tilt-stream`."""
+    """The path of a program: what TILT or TILT_LIVE names, the one in the wheel, the one that was built in the checkout, the one that was
+    released from its sources, or the one on the path, of which `tilt` can be `tilt-stream`."""
     variable, crate, names = PROGRAMS[command]
     named = os.environ.get(variable)
     if named:
         return named
-    built = TOP / "crates" / crate / "out" / crate
-    if os.access(built, os.X_OK):
-        return str(built)
+    for here in (PACKAGED / command, TOP / "crates" / crate / "out" / crate):
+        if os.access(here, os.X_OK):
+            return str(here)
     found = released(command) or next(filter(None, map(shutil.which, names)), None)
     if found is None:
         cure = f"build it by ./{command} in the checkout, put it on the path, or name it by {variable}=/path/of/{command}"

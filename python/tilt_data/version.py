@@ -13,7 +13,7 @@ from .errors import Refused, printable
 from .program import TOP, program
 
 VERSION = "0.1.0"
-# What tools/package/install and tools/package/debian.py write beside the modules, and the tool that prints it in a checkout.
+# What install, debian.py and wheel.py of tools/package write beside the modules, and the tool that prints it in a checkout.
 RECORD = pathlib.Path(__file__).with_name("described.toml")
 DESCRIBER = TOP / "tools" / "package" / "describe"
 
