@@ -17,6 +17,8 @@ import time
 
 import pytest
 from conftest import LIVE, PROGRAM, PYTHON, forked, run_program
+from tilt_data import handed
+from tilt_data.clock import Clock
 
 QUERY = (
     "input temp; input limit; let a = avg(temp[t-20:t]) every 10; let above = ifnull(a > limit, false);\n"
@@ -513,6 +515,147 @@ def test_a_reader_that_has_gone_loses_no_row(tilt, live, tmp_path):
     assert followed(tmp_path, "".join(LINES[4:]), "--end") == (0, ROWS, "")
 
 
+# A file a day
+
+
+DAYS = ["--rotate", "--quiet", "--tick", "1min", "--origin", "2026-03-01", "--scale", "10"]
+FIRST = 1772323200
+
+
+def days_of(folder: pathlib.Path) -> dict[str, list[str]]:
+    """The rows in the file of each day, which begins with a line of titles."""
+    found = {}
+    for path in sorted((folder / "s").glob("output-*.csv")):
+        titles, *found[path.name[7:-4]] = path.read_text().splitlines(True)
+        assert titles == "start,end,value\n"
+    return found
+
+
+def date_of(start: str) -> str:
+    """The date of a start, which is a date or a tick of a minute."""
+    return start[:10] if "-" in start else time.strftime("%Y-%m-%d", time.gmtime(FIRST + 60 * int(start)))
+
+
+def check_days(folder: pathlib.Path) -> list[str]:
+    """Joined, the days are the rows of the output, each on its own day: the days."""
+    days = days_of(folder)
+    assert [row for rows in days.values() for row in rows] == output(folder).splitlines(True)[1:]
+    assert all(date_of(row.partition(",")[0]) == day for day, rows in days.items() for row in rows) and all(days.values())
+    return list(days)
+
+
+@pytest.mark.parametrize("times", [[], ["--times"]])
+def test_days_have_each_row_once_whatever_is_killed(tilt, live, tmp_path, times):
+    simple(tmp_path)
+    draws = random.Random(8)
+    minutes = sorted(draws.sample(range(14400), 3000))
+    lines = [f"x,{FIRST + 60 * minute},{draws.randrange(100) / 10}\n" for minute in minutes]
+    words, kills = ["--state", "s", "--log", "log", "--unit", "s", *DAYS, *times], 25
+    with open(tmp_path / "log", "w", buffering=1) as log:
+        for kill in range(kills):
+            with open(tmp_path / "err", "ab") as err:
+                process = follow(tmp_path, *words, stdin=subprocess.DEVNULL, stdout=subprocess.DEVNULL, stderr=err)
+            if draws.random() < 0.8:
+                wait_for(lambda: child_of(process))
+            for line in lines[len(lines) * kill // kills : len(lines) * (kill + 1) // kills]:
+                log.write(line)
+                time.sleep(0.01 if draws.random() < 0.1 else 0)
+            time.sleep(draws.uniform(0, 0.05))
+            assert process.poll() is None, (tmp_path / "err").read_text()
+            os.killpg(process.pid, signal.SIGKILL) if draws.random() < 0.5 else process.kill()
+            process.wait()
+    process = follow(tmp_path, *words)
+    wait_for(lambda: child_of(process))
+    through = f"\nbytes {len('name,time,value' + chr(10) + ''.join(lines))}\n"
+    wait_for(lambda: through in (tmp_path / "s" / "state").read_text())
+    wait_for(lambda: (tmp_path / "s" / "rotated").read_text().split()[0] == str(len(output(tmp_path))))
+    process.terminate()
+    assert done(process) == (143, "", "")
+    assert output(tmp_path).count("\n") > 2000 and check_days(tmp_path) == [f"2026-03-{day:02}" for day in range(1, 11)]
+
+
+class Killed(BaseException):
+    """What ends a call at a step."""
+
+
+def killing(step: int, before: bool):
+    """`replace`, which ends the call before or after it does its work, once it was called so often."""
+    replace, left = handed.replace, [step]
+
+    def killed(path: str, text: str) -> None:
+        left[0] -= 1
+        if left[0] or not before:
+            replace(path, text)
+        if not left[0]:
+            raise Killed
+
+    return killed
+
+
+@pytest.mark.parametrize("before", [True, False])
+def test_a_kill_at_any_step_repeats_no_row_of_a_day(tmp_path, monkeypatch, before):
+    """Also where half of what was written is in the file."""
+    monkeypatch.setattr(os, "fsync", lambda _: None)
+    rows = [f"{start},{start + 300},{start}\n" for start in range(0, 6000, 300)]
+    draws = random.Random(9)
+    for step in range(1, 20):
+        folder = tmp_path / str(step)
+        (folder / "s").mkdir(parents=True)
+        (folder / "s" / "output.csv").write_text("start,end,value\n" + "".join(rows))
+        out = handed.Output(str(folder / "s"))
+        with monkeypatch.context() as patched, contextlib.suppress(Killed):
+            patched.setattr(handed, "replace", killing(step, before))
+            rotated = handed.Rotated(out, Clock(60 * 10**9, FIRST * 10**9))
+            for count in range(0, 21, 2):
+                out.committed = len("start,end,value\n" + "".join(rows[:count]))
+                rotated.hand_on()
+        with contextlib.suppress(FileNotFoundError):
+            _, day, length = (folder / "s" / "rotated").read_text().split()
+            path = folder / "s" / f"output-{day}.csv"
+            os.truncate(path, draws.randint(int(length), path.stat().st_size))
+        out.committed = len("start,end,value\n" + "".join(rows))
+        handed.Rotated(out, Clock(60 * 10**9, FIRST * 10**9)).finish()
+        assert check_days(folder) == [f"2026-03-0{day}" for day in range(1, 5)]
+
+
+@pytest.mark.parametrize("times", [[], ["--times"]])
+def test_a_row_is_in_the_file_of_the_day_on_which_it_starts(tilt, live, tmp_path, times):
+    simple(tmp_path)
+    at = ["2026-03-01T23:58:00Z", "2026-03-01T23:59:00Z", "2026-03-02T00:00:00Z", "2026-03-04T01:59:00+02:00", "2026-03-04T02:00:00+02:00"]
+    for part in (at[:2], at[2:4], at[4:]):
+        given = "".join(f"x,{text},{at.index(text)}\n" for text in part)
+        assert followed(tmp_path, given, *DAYS, *times) == (0, "", "")
+    assert followed(tmp_path, "x,2026-03-06T00:00:00Z,7\n", *DAYS, *times) == (0, "", "")
+    assert check_days(tmp_path) == ["2026-03-01", "2026-03-02", "2026-03-03", "2026-03-04"]
+    rows = {day: [row.split(",") for row in rows] for day, rows in days_of(tmp_path).items()}
+    assert [len(some) for some in rows.values()] == [2, 1, 1, 1] and rows["2026-03-04"][0][2] == "4.0\n"
+    if times:
+        assert rows["2026-03-03"] == [["2026-03-03T23:59:00Z", "2026-03-04T00:00:00Z", "3.0\n"]]
+
+
+def test_a_row_that_starts_on_no_day_is_an_error(tilt, live, tmp_path):
+    simple(tmp_path)
+    given = "".join(f"x,{second},1\n" for second in (FIRST, FIRST + 60, 253402300860, 253402300920))
+    for folder, words in (("s", []), ("t", ["--times"])):
+        status, out, err = done(follow(tmp_path, "--state", folder, "--unit", "s", *DAYS, *words), given)
+        assert (status, out) == (1, "") and "lies outside of the years 1 to 9999" in err
+        assert (tmp_path / folder / "output.csv").read_text().count("\n") == 4
+
+
+def test_the_file_of_a_day_that_is_not_over_must_stay(tilt, live, tmp_path):
+    simple(tmp_path)
+    given = [f"x,2026-03-0{1 + half // 2}T{6 + half % 2 * 12:02}:00:00Z,{half}\n" for half in range(5)]
+    assert followed(tmp_path, "".join(given[:4]), *DAYS) == (0, "", "")
+    first, second = (tmp_path / "s" / f"output-2026-03-0{day}.csv" for day in (1, 2))
+    first.unlink()
+    second.rename(tmp_path / "moved")
+    told = "tilt-data: s/output-2026-03-02.csv: it was moved away or cut before its day was over: put it back as it was\n"
+    assert followed(tmp_path, given[4], *DAYS) == (1, "", told)
+    (tmp_path / "moved").rename(second)
+    assert followed(tmp_path, "", *DAYS) == (0, "", "")
+    assert [row for rows in days_of(tmp_path).values() for row in rows] == output(tmp_path).splitlines(True)[3:] and not first.exists()
+
+
 # What is rejected
 
 
@@ -564,6 +707,7 @@ FAULTS = [
     (["--scale", "10"], "--scale: for readings give also --tick, or --like a series"),
     (["--clock", "5s"], "--clock: for readings give also --tick, or --like a series"),
     (["--times"], "--times: for readings give also --tick, or --like a series"),
+    (["--rotate"], "--rotate: for readings give also --tick, or --like a series"),
     ([*READING, "--clock", "soon"], "'soon' is no duration"),
     ([*READING, "--origin", "tomorrow"], "'tomorrow' is no time: ISO 8601 was expected"),
 ]

@@ -25,7 +25,7 @@ from .convention import TextConvention
 from .errors import Refused, note, printable
 from .files import failing_at, locked, replace, standard_input
 from .grammar import inputs_in
-from .handed import Output, Published, Shown
+from .handed import Output, Published, Receiver, Rotated, Shown
 from .program import call, program
 from .version import VERSION
 from .why import check, text_of
@@ -46,7 +46,7 @@ NUMBERS = {
     "ahead": "rows: a line that starts more than N ticks ahead is bad",
 }
 OF_ROWS = ("lateness", "idle", "ahead", "end")
-OF_READINGS = ("unit", "origin", "scale", "hold", "max_age", "event", "closed", "null", "skip_empty", "clock", "times")
+OF_READINGS = ("unit", "origin", "scale", "hold", "max_age", "event", "closed", "null", "skip_empty", "clock", "times", "rotate")
 # What earlier versions took, and what to do now.
 GONE = {
     "--rows": "rows are printed as soon as they are final, so leave it out",
@@ -68,6 +68,7 @@ def add(commands: Any) -> None:
     option("--quiet", action="store_true", help="print nothing: output.csv has it")
     option("--exec", metavar="COMMAND", help="call it by sh for each row, at least once: start, end and value are $1, $2 and $3")
     option("--mqtt", metavar="TOPIC", help="publish each row by mosquitto_pub, at least once: a topic, or mqtt://USER@HOST:PORT/TOPIC")
+    option("--rotate", action="store_true", help="readings: copy the rows into a file a day, such as output-2026-03-01.csv in the folder")
     option("--clock", metavar="DURATION", help="readings: each second, all inputs become known up to now less so much")
     option("--begun", action="store_true", help="print also what has begun, as start,,value")
     option("--times", action="store_true", help="readings: write times as dates")
@@ -404,14 +405,24 @@ class Live:
         return process.wait()
 
 
+def receivers_of(words: argparse.Namespace, output: Output) -> list[Receiver]:
+    """The receivers. The days come first, since standard output may have no reader, and a command may fail."""
+    receivers: list[Receiver] = []
+    if words.rotate:
+        receivers.append(Rotated(output, TextConvention.of(words).clock(0)))
+    receivers.append(Shown(output, words.quiet, words.exec))
+    if words.mqtt is not None:
+        receivers.append(Published(output, words.mqtt))
+    return receivers
+
+
 class Follower:
     def __init__(self, words: argparse.Namespace) -> None:
         self.words, options = words, options_of(words)
         self.feed = Feed(words.state)
         self.live = Live([words.query, *options], self.feed, words.every)
         self.output = Output(words.state)
-        self.shown = Shown(self.output, words.quiet, words.exec)
-        self.published = None if words.mqtt is None else Published(self.output, words.mqtt)
+        self.receivers = receivers_of(words, self.output)
         self.header = HEADER if "--time" in options and not self.feed.length else b""
         self.lag = None if words.clock is None else duration_of(words.clock)
         self.came = time.monotonic()
@@ -458,23 +469,22 @@ class Follower:
 
     def hand_on(self) -> None:
         self.output.look()
-        self.shown.hand_on()
-        if self.published is not None:
-            self.published.hand_on()
+        for receiver in self.receivers:
+            receiver.hand_on()
 
     def finish(self) -> None:
         """Hands on what is left, once the program has ended."""
-        self.hand_on()
-        if self.published is not None:
-            self.published.finish()
+        self.output.look()
+        for receiver in self.receivers:
+            receiver.finish()
 
     def end(self) -> None:
         """Ends the programs, whatever happened. What they haven't done comes with the next call."""
         try:
             self.live.end()
         finally:
-            if self.published is not None:
-                self.published.end()
+            for receiver in self.receivers:
+                receiver.end()
 
     def watermark(self, moment: int) -> bytes:
         text = moment_text(moment, 9) if self.words.unit is None else str(moment // UNITS[self.words.unit])

@@ -2,14 +2,16 @@
 from __future__ import annotations
 
 import contextlib
+import itertools
 import os
 import shutil
 import subprocess
 import time
 from typing import IO
 
+from .clock import Clock
 from .errors import Refused, note
-from .files import replace, writing
+from .files import HEADER_LINE, failing_at, replace, writing
 
 # How many bytes of the output are handed on at once; how long to wait after a failure; in seconds.
 CHUNK, AGAIN = 1 << 20, 1.0
@@ -41,16 +43,63 @@ class Output:
 
 
 class Receiver:
-    """Somebody who gets the rows, of which `at` counts the bytes that are handed on."""
+    """Somebody who gets the rows, of which `at` counts the bytes that are handed on. Its file has this number, and may have `more`."""
 
     def __init__(self, output: Output, name: str) -> None:
         self.output, self.path, self.at = output, os.path.join(output.folder, name), 0
+        self.more: list[str] = []
         with contextlib.suppress(FileNotFoundError), open(self.path, encoding="ascii") as file:
-            self.at = int(file.read())
+            at, *self.more = file.read().split()
+            self.at = int(at)
 
-    def has(self, at: int) -> None:
+    def has(self, at: int, *more: object) -> None:
         self.at = at
-        replace(self.path, str(at))
+        replace(self.path, " ".join(map(str, (at, *more))))
+
+    def hand_on(self) -> None:
+        raise NotImplementedError
+
+    def finish(self) -> None:
+        """Hands on what is left, once the program has ended."""
+        self.hand_on()
+
+    def end(self) -> None:
+        """Ends what it has begun, whatever happened."""
+
+
+class Rotated(Receiver):
+    """A file for each day, with the rows that start on it in UTC. Rows come in the order of their starts, so a day is complete once another
+    one has begun. `rotated` has the position, the day of the row before it, and the length of its file with the rows up to there. A file is
+    cut before it is written, to this length, or to nothing for another day. So rows that a killed call didn't note aren't there twice."""
+
+    def __init__(self, output: Output, clock: Clock) -> None:
+        super().__init__(output, "rotated")
+        self.clock, self.at = clock, max(self.at, len(HEADER_LINE))
+        self.day, self.length = (self.more[0], int(self.more[1])) if self.more else ("", 0)
+
+    def day_of(self, row: str) -> str:
+        """The day of a row, whose start is a date or a tick. A tick outside of the years 1 to 9999 is rejected."""
+        start = row.partition(",")[0]
+        return (start if start.endswith("Z") else self.clock.text(int(start)))[:10]
+
+    def hand_on(self) -> None:
+        while text := self.output.after(self.at):
+            for day, rows in itertools.groupby(text.splitlines(True), self.day_of):
+                self.write(day, "".join(rows).encode())
+
+    def write(self, day: str, rows: bytes) -> None:
+        if day != self.day:
+            self.day, self.length = day, 0
+        path = os.path.join(self.output.folder, f"output-{day}.csv")
+        with failing_at(path), open(path, "ab") as file:
+            if os.path.getsize(path) < self.length:
+                raise Refused(f"{path}: it was moved away or cut before its day was over: put it back as it was")
+            file.truncate(self.length)
+            file.write(rows if self.length else HEADER_LINE + rows)
+            file.flush()
+            os.fsync(file.fileno())
+            self.length = os.path.getsize(path)
+        self.has(self.at + len(rows), day, self.length)
 
 
 class Shown(Receiver):
