@@ -656,6 +656,106 @@ def test_the_file_of_a_day_that_is_not_over_must_stay(tilt, live, tmp_path):
     assert [row for rows in days_of(tmp_path).values() for row in rows] == output(tmp_path).splitlines(True)[3:] and not first.exists()
 
 
+# Numbers for a monitor
+
+
+SAMPLE = re.compile(r'([a-z][a-z0-9_]*)\{folder="((?:[^"\\\n]|\\[\\"n])*)"\} (\S+)')
+
+
+def measured(path: pathlib.Path, folder: pathlib.Path) -> dict[str, float]:
+    """The numbers of a file, which is as Prometheus asks: each has its meaning, its type and the folder, in this order."""
+    text, found = path.read_text(), {}
+    assert text.endswith("\n")
+    lines = text.splitlines()
+    for help_line, type_line, sample in zip(lines[::3], lines[1::3], lines[2::3], strict=True):
+        name, label, number = SAMPLE.fullmatch(sample).groups()
+        assert help_line.startswith(f"# HELP {name} ") and type_line in (f"# TYPE {name} counter", f"# TYPE {name} gauge")
+        assert type_line.endswith("counter") == name.endswith("_total") and name not in found
+        assert re.sub(r"\\(.)", lambda sign: {"n": "\n"}.get(sign[1], sign[1]), label) == str(folder)
+        found[name] = float(number)
+    return found
+
+
+def test_numbers_of_rows(tilt, live, tmp_path):
+    lines, wanted = lay_out(tmp_path)
+    name = 's "1"\\n\n2'
+    status, out, err = done(follow(tmp_path, "--state", name, "--end", "--prometheus", "a.prom"), "".join(lines))
+    size, last = len("".join(lines)) + len(",,,\n"), wanted.splitlines()[-1].split(",")
+    assert (status, out, err) == (0, wanted, "")
+    numbers = {"tilt_up": 0, "tilt_rows_total": wanted.count("\n") - 1, "tilt_feed_bytes_total": size, "tilt_committed_bytes": size}
+    numbers |= {"tilt_restarts_total": 0, "tilt_last_row_end_ticks": float(last[1]), "tilt_last_value": float(last[2])}
+    assert measured(tmp_path / "a.prom", tmp_path / name) == numbers
+    # A call that takes nothing has the same numbers, and one that never had any takes them from the output.
+    for path in ("a.prom", "b.prom"):
+        assert done(follow(tmp_path, "--state", name, "--end", "--prometheus", path))[:2] == (0, "")
+        assert measured(tmp_path / path, tmp_path / name) == numbers
+        (tmp_path / name / "measured").unlink()
+
+
+@pytest.mark.parametrize("words", [[], ["--times"], ["--begun"]])
+def test_numbers_of_readings(tilt, live, tmp_path, words):
+    simple(tmp_path)
+    words = ["--quiet", "--tick", "250ms", "--scale", "10", "--prometheus", "s.prom", *words]
+    assert followed(tmp_path, "x,2026-03-01T00:00:00Z,3.5\n", *words) == (0, "", "")
+    before = measured(tmp_path / "s.prom", tmp_path / "s")
+    assert "tilt_last_row_end_seconds" not in before and before["tilt_rows_total"] == ("--begun" in words)
+    assert followed(tmp_path, "x,2026-03-01T00:00:01.750Z,-4\n", *words) == (0, "", "")
+    numbers = measured(tmp_path / "s.prom", tmp_path / "s")
+    assert numbers["tilt_last_row_end_seconds"] == FIRST + 1.75
+    assert (
+        numbers["tilt_last_value"] == (-4 if "--begun" in words else 3.5) and numbers["tilt_rows_total"] == output(tmp_path).count("\n") - 1
+    )
+
+
+def test_a_line_of_the_feed_is_no_number(tilt, live, tmp_path):
+    simple(tmp_path)
+    given = "x,0,3,1\nbytes 7\nx,3,4,2\nbytes 9\n"
+    assert followed(tmp_path, given, "--quiet", "--skip-bad", "--prometheus", "s.prom")[:2] == (0, "")
+    assert measured(tmp_path / "s.prom", tmp_path / "s")["tilt_committed_bytes"] == len(given)
+
+
+def test_numbers_go_on_whatever_is_killed(tilt, live, tmp_path):
+    lines, wanted = lay_out(tmp_path)
+    path, words = tmp_path / "s.prom", ["--state", "s", "--log", "log", "--quiet", "--prometheus", "s.prom"]
+    for part in range(6):
+        with open(tmp_path / "log", "a") as log:
+            log.write("".join(lines[part * len(lines) // 6 : (part + 1) * len(lines) // 6]))
+        process = follow(tmp_path, *words)
+        size = len("".join(lines[: (part + 1) * len(lines) // 6]))
+        wait_for(lambda: path.exists() and measured(path, tmp_path / "s")["tilt_committed_bytes"] == size)
+        numbers = measured(path, tmp_path / "s")
+        assert numbers["tilt_up"] == 1 and numbers["tilt_feed_bytes_total"] == size and numbers["tilt_restarts_total"] == 0
+        if part == 3:
+            os.kill(child_of(process), signal.SIGKILL)
+            wait_for(lambda: measured(path, tmp_path / "s")["tilt_restarts_total"] == 1)
+        assert numbers["tilt_rows_total"] == output(tmp_path).count("\n") - 1
+        process.kill()
+        process.communicate()
+    assert done(follow(tmp_path, *words, "--end")) == (0, "", "")
+    assert output(tmp_path) == wanted and measured(path, tmp_path / "s")["tilt_rows_total"] == wanted.count("\n") - 1
+
+
+def test_numbers_are_written_once_a_second_and_hold_no_row_back(tilt, live, tmp_path):
+    simple(tmp_path)
+    told = "tilt-data: gone/s.prom: it can't be written: No such file or directory\n"
+    words = ["--quiet", "--prometheus", "gone/s.prom"]
+    assert followed(tmp_path, LINES[0], *words) == (1, "", told) and not (tmp_path / "s" / "taken.json").exists()
+    (tmp_path / "gone").mkdir()
+    process = follow(tmp_path, "--state", "s", *words)
+    times, begin = set(), time.monotonic()
+    for line in LINES:
+        process.stdin.write(line.encode())
+        process.stdin.flush()
+        time.sleep(0.04)
+        with contextlib.suppress(FileNotFoundError):
+            times.add((tmp_path / "gone" / "s.prom").stat().st_mtime_ns)
+    # One is of the start, before any line.
+    assert 2 <= len(times) <= 2 + time.monotonic() - begin
+    shutil.rmtree(tmp_path / "gone")
+    time.sleep(1.2)
+    assert done(process) == (0, "", told) and output(tmp_path) == ROWS
+
+
 # What is rejected
 
 

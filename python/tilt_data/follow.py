@@ -26,6 +26,7 @@ from .errors import Refused, note, printable
 from .files import failing_at, locked, replace, standard_input
 from .grammar import inputs_in
 from .handed import Output, Published, Receiver, Rotated, Shown
+from .measured import Measured
 from .program import call, program
 from .version import VERSION
 from .why import check, text_of
@@ -69,6 +70,7 @@ def add(commands: Any) -> None:
     option("--exec", metavar="COMMAND", help="call it by sh for each row, at least once: start, end and value are $1, $2 and $3")
     option("--mqtt", metavar="TOPIC", help="publish each row by mosquitto_pub, at least once: a topic, or mqtt://USER@HOST:PORT/TOPIC")
     option("--rotate", action="store_true", help="readings: copy the rows into a file a day, such as output-2026-03-01.csv in the folder")
+    option("--prometheus", metavar="FILE", help="write rows, bytes and the last value to this file each second, for node_exporter")
     option("--clock", metavar="DURATION", help="readings: each second, all inputs become known up to now less so much")
     option("--begun", action="store_true", help="print also what has begun, as start,,value")
     option("--times", action="store_true", help="readings: write times as dates")
@@ -341,9 +343,12 @@ class Live:
     """The program `tilt-live` over a feed. If a signal ends it, it is started again, but not twice without a commit between."""
 
     def __init__(self, words: list[str], feed: Feed, every: int | None) -> None:
-        self.words, self.feed, self.died_at = [*words, "--folder", feed.folder], feed, -1
+        self.words, self.feed, self.died_at, self.restarts = [*words, "--folder", feed.folder], feed, -1, 0
         self.every = [] if every is None else ["--every", str(every)]
         self.process: subprocess.Popen[bytes] | None = None
+
+    def numbers(self) -> dict[str, int]:
+        return {"tilt_feed_bytes_total": self.feed.length, "tilt_restarts_total": self.restarts}
 
     def start(self) -> None:
         """Starts it, and gives it the feed from its position on. One that a killed call has left has no more to read, and ends first."""
@@ -393,6 +398,7 @@ class Live:
             self.died_at = self.at
         if not again:
             raise Ended(status)
+        self.restarts += status < 0
         self.start()
 
     def end(self) -> int:
@@ -405,14 +411,17 @@ class Live:
         return process.wait()
 
 
-def receivers_of(words: argparse.Namespace, output: Output) -> list[Receiver]:
+def receivers_of(words: argparse.Namespace, output: Output, live: Live) -> list[Receiver]:
     """The receivers. The days come first, since standard output may have no reader, and a command may fail."""
-    receivers: list[Receiver] = []
-    if words.rotate:
-        receivers.append(Rotated(output, TextConvention.of(words).clock(0)))
+    convention, receivers = TextConvention.of(words), list[Receiver]()
+    clock = None if convention.given[0] is None else convention.clock(0)
+    if words.rotate and clock is not None:
+        receivers.append(Rotated(output, clock))
     receivers.append(Shown(output, words.quiet, words.exec))
     if words.mqtt is not None:
         receivers.append(Published(output, words.mqtt))
+    if words.prometheus is not None:
+        receivers.append(Measured(output, words.prometheus, clock, live.numbers))
     return receivers
 
 
@@ -422,9 +431,9 @@ class Follower:
         self.feed = Feed(words.state)
         self.live = Live([words.query, *options], self.feed, words.every)
         self.output = Output(words.state)
-        self.receivers = receivers_of(words, self.output)
         self.header = HEADER if "--time" in options and not self.feed.length else b""
         self.lag = None if words.clock is None else duration_of(words.clock)
+        self.receivers = receivers_of(words, self.output, self.live)
         self.came = time.monotonic()
         self.due = self.came + BEAT
 

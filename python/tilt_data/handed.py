@@ -4,6 +4,7 @@ from __future__ import annotations
 import contextlib
 import itertools
 import os
+import re
 import shutil
 import subprocess
 import time
@@ -15,6 +16,8 @@ from .files import HEADER_LINE, failing_at, replace, writing
 
 # How many bytes of the output are handed on at once; how long to wait after a failure; in seconds.
 CHUNK, AGAIN = 1 << 20, 1.0
+# The line of a state that says how many bytes of the feed are committed.
+TAKEN = re.compile(rb"^bytes ([0-9]+)$", re.MULTILINE)
 
 
 class Output:
@@ -31,6 +34,17 @@ class Output:
             if self.seen != before:
                 state.readline()
                 self.committed = int(state.readline())
+
+    def taken(self) -> int:
+        """How many bytes of the feed are committed. The third line of a state is the length of the end of the feed, which comes behind it.
+        After this and the query a line says it. A state that is new has two lines."""
+        found = [b"0"]
+        with contextlib.suppress(FileNotFoundError), open(os.path.join(self.folder, "state"), "rb") as state:
+            for _ in range(2):
+                state.readline()
+            state.seek(int(state.readline() or 0), os.SEEK_CUR)
+            found += TAKEN.findall(state.read())
+        return int(found[-1])
 
     def after(self, at: int) -> str:
         """Whole lines from a byte on, the titles among them; nothing if all is handed on."""
