@@ -2,6 +2,7 @@ pub mod Adding
 pub mod Baring
 pub mod Beginning
 pub mod Feeding
+pub mod FirstLine
 pub mod KeepingRows
 pub mod Leaving
 pub mod Lines

@@ -29,6 +29,7 @@ mod run_options;
 mod shown;
 mod state_rows;
 mod stop;
+mod until_line;
 
 pub use bare_run::BareRun;
 pub use display::Display;

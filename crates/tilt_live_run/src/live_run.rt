@@ -25,6 +25,7 @@ use crate::line_run::LineRun;
 use crate::place::Place;
 use crate::run_options::RunOptions;
 use crate::stop::Stop;
+use crate::until_line::until_line;
 use std::alloc::{AllocError as OutOfMemory, Global};
 use tilt_compiler::Accepted;
 use tilt_feed_text::append_cut;
@@ -32,7 +33,6 @@ use tilt_outside::Sink;
 use tilt_port::Port;
 use tilt_run_state::RunState;
 use tilt_syntax::Query;
-use tilt_text::until;
 
 /// The run of a query on the text of its feed. It takes the bytes of the feed, in pieces of any size, and writes what each line makes
 /// final, and what has begun if its display says so. Bad lines are reported and change nothing; if it is `strict`, the first one stops the
@@ -202,7 +202,7 @@ impl LiveRun {
         ensures takes { (n : ℕ) → E.takes err.new n }
     {
         let mut rest = piece;
-        while let Some((line, after)) = until(rest, b'\n') {
+        while let Some((line, after)) = until_line(rest) {
             self.take_end(line, err)?;
             self.place = self.place.pass_line(line.len());
             rest = after;
@@ -294,6 +294,6 @@ fn split_line(bytes: &[u8]) -> Option<(&[u8], &[u8])>
     ensures { MatchOption result (until_at 10 bytes.now ≡ None)
         (λ parts. (line : List ℕ) × (until_at 10 bytes.now ≡ Some (line, parts.1.now)) × (parts.0.now ≡ line ++ 10 ∷ [])) }
 {
-    let (line, _) = until(bytes, b'\n')?;
+    let (line, _) = until_line(bytes)?;
     Some(bytes.split_at(line.len() + 1))
 }
