@@ -1,15 +1,14 @@
-use Rattle.std.proofs.Common.{◌≡◌, ℕ, ◌^◌, false, List, [], ◌++◌, length, Some, Result, Ok, Err, is_err, refl, sym, ◌∙◌, subst}
+use Rattle.std.proofs.Common.{◌≡◌, ℕ, ◌^◌, false, List, [], ◌++◌, length, Result, Ok, Err, is_err, refl, sym, ◌∙◌, subst}
 use Rattle.std.proofs.lemmas.List.{append-nil, append_cancel_left}
 use Rattle.tilt_core.proofs.Constancy.{definitions-AreGrids}
 use Rattle.tilt_core.specs.Core.{emitted_number}
-use Rattle.tilt_core.specs.Meaning.{meaning, output_of}
+use Rattle.tilt_core.specs.Meaning.{meaning}
 use Rattle.tilt_counting.specs.Count.{count_report, row_count}
 use Rattle.tilt_exact_runs.proofs.Cells.{output-cell, output-domain, output-many}
 use Rattle.tilt_exact_runs.proofs.Counted.{null-cell, report-none, rows-none}
-use Rattle.tilt_exact_runs.proofs.Finished.{finished_is}
+use Rattle.tilt_exact_runs.proofs.Finished.{whole-output}
 use Rattle.tilt_exact_runs.proofs.law.quiet_runs_are_exact.Goals as goal
 use Rattle.tilt_exact_runs.specs.Exact.{feed_after}
-use Rattle.tilt_feed.specs.Feed.{Feed, closed_rows}
 use Rattle.tilt_feed.specs.Printed.{printed}
 use Rattle.tilt_feed_form.specs.Said.{events_of, first_state, taken_from}
 use Rattle.tilt_feed_text.specs.Split.{whole_lines}
@@ -22,7 +21,6 @@ use Rattle.tilt_magnitudes.specs.Law.{everywhere}
 use Rattle.tilt_magnitudes.specs.declared.overflow.Overflow.{Overflow}
 use Rattle.tilt_overflows.specs.Law.{EmitsNothing, asked_for}
 use Rattle.tilt_overflows.specs.Watching.{watching_core}
-use Rattle.tilt_stream.specs.Snap.{Snapshot}
 use Rattle.tilt_stream.specs.Stream.{cell_at}
 use Rattle.tilt_unit_load.specs.UnitFile.{exact_output}
 use Rattle.tilt_unit_report.specs.Bound.{rates_for, values_for}
@@ -46,16 +44,8 @@ returns c = record {
       let events = events_of options.form core.inputs
       (taken_from options.strict options.form core.inputs 0 (first_state options.form (length core.inputs)) lines) in
       -- the whole output is printed, of the query and of the one that watches it
-      let finished = finished_is feed feed_is.finished in
-      let closed : output_of core (closed_rows feed) ≡ Some (printed core feed) =
-      subst (λ (f : Feed). output_of core (closed_rows f) ≡ Some (printed core f)) finished (c.all_is_printed.ensures core events is) in
-      let watched : output_of watching (closed_rows feed) ≡ Some (printed watching feed) =
-      subst (λ (f : Feed). output_of watching (closed_rows f) ≡ Some (printed watching f)) finished
-      (c.all_is_printed.ensures watching events quiet.accepted) in
-      let all : output_of core rows ≡ Some (printed core feed) =
-      subst (λ (rs : List (List Snapshot)). output_of core rs ≡ Some (printed core feed)) (sym feed_is.rows_are) closed in
-      let watch_all : output_of watching rows ≡ Some (printed watching feed) =
-      subst (λ (rs : List (List Snapshot)). output_of watching rs ≡ Some (printed watching feed)) (sym feed_is.rows_are) watched in
+      let all = whole-output core feed rows feed_is.finished feed_is.rows_are (c.all_is_printed.ensures core events is) in
+      let watch_all = whole-output watching feed rows feed_is.finished feed_is.rows_are (c.all_is_printed.ensures watching events quiet.accepted) in
       -- no row of the one that watches was counted
       let alone = (live_meaning core options).end_report bytes in
       let count = row_count (first_news asked.display watching ++ (live_meaning watching asked).added [] bytes) in
@@ -83,11 +73,7 @@ returns c = record {
       let is = of_query.core_is in
       let events = events_of options.form core.inputs
       (taken_from options.strict options.form core.inputs 0 (first_state options.form (length core.inputs)) (whole_lines bytes)) in
-      let closed : output_of core (closed_rows feed) ≡ Some (printed core feed) =
-      subst (λ (f : Feed). output_of core (closed_rows f) ≡ Some (printed core f)) (finished_is feed feed_is.finished)
-      (c.all_is_printed.ensures core events is) in
-      let all : output_of core rows ≡ Some (printed core feed) =
-      subst (λ (rs : List (List Snapshot)). output_of core rs ≡ Some (printed core feed)) (sym feed_is.rows_are) closed in
+      let all = whole-output core feed rows feed_is.finished feed_is.rows_are (c.all_is_printed.ensures core events is) in
       let found = bounds_found (magnitudes_of core bounds) safe.within in
       let stays = c.values_stay_within_bounds.ensures.no_overflow (values_for bounds core.inputs) found.0 (rates_for bounds core.inputs) rows core.defs
       safe.values safe.rates (definitions-AreGrids (length core.inputs) core.defs is.definitions) found.1 in
