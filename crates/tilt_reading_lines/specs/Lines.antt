@@ -6,24 +6,29 @@ use Rattle.std.specs.Prelude.{◌∷◌, ◌++◌, length, get_or, Option, Some,
 use Rattle.std.specs.List.{list_any}
 use Rattle.std.specs.Option.{ok_or}
 use Rattle.std.specs.Str.{bytes_eq}
-use Rattle.tilt_readings.specs.Date.{date_read}
+use Rattle.tilt_readings.specs.Date.{date_read, moment_of}
 use Rattle.tilt_readings.specs.Decimal.{bounded, in_64_bits, number_at}
 use Rattle.tilt_readings.specs.Epoch.{nanoseconds}
+use Rattle.tilt_readings.specs.LocalDate.{local_date_read}
 use Rattle.tilt_readings.specs.declared.fault.DateFault.{DateFault}
+use Rattle.tilt_readings.specs.declared.fault.DateFault.TheVariants.{NotDate}
 use Rattle.tilt_readings.specs.declared.fault.DecimalFault.{DecimalFault}
+use Rattle.tilt_readings.specs.declared.local_date.LocalDate.{LocalDate}
 use Rattle.tilt_readings.specs.declared.tick.TheConstants.{FARTHEST}
 use Rattle.std.specs.Prelude.{neg_ℤ}
 use Rattle.tilt_reading_lines.specs.Records.{fields_of_line}
-use Rattle.tilt_reading_lines.specs.Rules.{Layout, RulesValue, SourceValue, Values}
+use Rattle.tilt_reading_lines.specs.Rules.{Layout, LocalValue, RulesValue, SourceValue, Values}
 use Rattle.tilt_reading_lines.specs.Rules.Values.{Named, OfInputs}
 use Rattle.tilt_reading_lines.specs.Tick.{tick_at}
 use Rattle.tilt_reading_lines.specs.declared.fault.LineFault.{LineFault}
-use Rattle.tilt_reading_lines.specs.declared.fault.LineFault.TheVariants.{NotOneRecord, FieldCount, BadDate, BadNumber, TimeOutOfRange, NoName, BadValue}
+use Rattle.tilt_reading_lines.specs.declared.fault.LineFault.TheVariants.{NotOneRecord, FieldCount, BadDate, BadLocal, BadNumber, TimeOutOfRange, NoName, BadValue}
 use Rattle.tilt_reading_lines.specs.declared.fault.ReadLineFault.{ReadLineFault}
 use Rattle.tilt_reading_lines.specs.declared.fault.ReadLineFault.TheVariants.{BadLine, OutOfMemory}
 use Rattle.tilt_reading_lines.specs.declared.rules.InputReading.{InputReading}
 use Rattle.tilt_reading_lines.specs.declared.rules.Moments.{Moments}
 use Rattle.tilt_reading_lines.specs.declared.rules.Moments.TheVariants.{Dates, Numbers}
+use Rattle.tilt_zones.specs.Taken.{moment_taken}
+use Rattle.tilt_zones.specs.declared.fault.LocalFault.{LocalFault}
 
 infixl 10 ◌>>=◌
 -- the next step, unless there was a fault
@@ -36,24 +41,45 @@ pub record Said : Type 0 where
   pub readings : List InputReading
   pub known : Option ℤ
 
--- the moment of a date or of a number, or why the text has none
-abbrev pub dated : Result ℤ DateFault → Result ℤ LineFault
-dated (Ok moment) = Ok moment
+-- what a date or a number is, or why the text is none
+abbrev pub dated : {A : Type 0} → Result A DateFault → Result A LineFault
+dated (Ok date) = Ok date
 dated (Err fault) = Err (BadDate fault)
 
 abbrev pub counted : Result ℤ DecimalFault → Result ℤ LineFault
 counted (Ok moment) = Ok moment
 counted (Err fault) = Err (BadNumber fault)
 
+-- the moment that a local time is taken for, or why it has none
+abbrev pub taken : Result ℤ LocalFault → Result ℤ LineFault
+taken (Ok moment) = Ok moment
+taken (Err fault) = Err (BadLocal fault)
+
+-- the moment of a local time in a zone
+abbrev pub shown_said : LocalValue → LocalDate → Result ℤ LineFault
+shown_said rules date = do
+  seconds ← taken (moment_taken rules.zone date.seconds rules.fold)
+  dated (moment_of seconds (Ok (pos date.nanoseconds)))
+
+-- the moment of a text without an offset: that of a local time, if there is a zone
+abbrev pub local_said : Option LocalValue → List ℕ → Result ℤ LineFault
+local_said None text = Err (BadDate NotDate)
+local_said (Some rules) text = dated (local_date_read text) >>= shown_said rules
+
+-- the moment of a text by what it is as a date with an offset
+abbrev pub date_said : Option LocalValue → List ℕ → Result ℤ DateFault → Result ℤ LineFault
+date_said rules text (Err NotDate) = local_said rules text
+date_said rules text read = dated read
+
 -- the moment that a text is
-abbrev pub moment_said : Moments → List ℕ → Result ℤ LineFault
-moment_said Dates text = dated (date_read text)
-moment_said (Numbers unit) text = counted (bounded (neg_ℤ FARTHEST) FARTHEST (number_at 46 (nanoseconds unit) text))
+abbrev pub moment_said : Moments → Option LocalValue → List ℕ → Result ℤ LineFault
+moment_said Dates rules text = date_said rules text (date_read text)
+moment_said (Numbers unit) rules text = counted (bounded (neg_ℤ FARTHEST) FARTHEST (number_at 46 (nanoseconds unit) text))
 
 -- the tick that a text says
 abbrev pub tick_said : RulesValue → List ℕ → Result ℤ LineFault
 tick_said rules text = do
-  moment ← moment_said rules.moments text
+  moment ← moment_said rules.moments rules.local text
   ok_or (tick_at rules.clock moment) TimeOutOfRange
 
 -- whether a text means that there is no value

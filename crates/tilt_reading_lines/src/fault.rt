@@ -3,6 +3,7 @@ ghost use Rattle.std.specs.Prelude.{◌≡◌};
 use std::alloc::AllocError;
 use thiserror::Error;
 use tilt_readings::{DateFault, DecimalFault};
+use tilt_zones::LocalFault;
 
 /// What a column is for.
 #[derive(Clone, Copy, Debug, PartialEq, Eq)]
@@ -74,6 +75,9 @@ pub enum LineFault {
     /// The time isn't a date.
     #[error("bad time: {0}")]
     BadDate(DateFault),
+    /// The time is a local time that has no moment in the zone.
+    #[error("bad time: {0}")]
+    BadLocal(LocalFault),
     /// The time isn't a number.
     #[error("bad time: {0}")]
     BadNumber(DecimalFault),

@@ -30,4 +30,4 @@ pub use columns::{Columns, Titles, ValueColumns};
 pub use fault::{Column, HeaderFault, LineFault, ReadHeaderFault, ReadLineFault};
 pub use law::ticks_hold_their_moments;
 pub use reader::ReadingReader;
-pub use rules::{InputReading, Moments, Rules, Source};
+pub use rules::{InputReading, LocalRules, Moments, Rules, Source};

@@ -5,6 +5,7 @@ use std::marker::Model;
 use tilt_base::Cell;
 use tilt_lexer::Name;
 use tilt_readings::{Clock, Unit};
+use tilt_zones::{Fold, Zone};
 
 /// A reading of an input, which is counted from 0 in the order of the sources.
 #[derive(Clone, Copy, Debug, PartialEq, Eq)]
@@ -71,10 +72,55 @@ impl Source {
     }
 }
 
+/// How times without an offset are read: as local times of a zone. A clause sees it as plain data.
+#[derive(Debug, Drop)]
+pub struct LocalRules {
+    pub(crate) zone: Zone,
+    pub(crate) fold: Option<Fold>,
+    pub(crate) name: Vec<u8>,
+}
+
+impl Model for LocalRules {
+    ghost use Rattle.tilt_reading_lines.specs.Rules.{LocalValue};
+
+    ghost Value = { LocalValue };
+
+    ghost view = { λ l. record { zone = l.zone; fold = l.fold; name = l.name.items } };
+}
+
+impl LocalRules {
+    ghost use Rattle.std.specs.Prelude.{◌≡◌};
+
+    /// The rules for local times of a zone, which has this name. The fold says which moment a local time means that clocks skip or show
+    /// twice; without one such a time is bad.
+    pub fn new(zone: Zone, fold: Option<Fold>, name: Vec<u8>) -> LocalRules
+        ensures zone { result.zone ≡ zone }
+        ensures fold { result.fold ≡ fold }
+        ensures name { result.name ≡ name.items }
+    {
+        LocalRules { zone, fold, name }
+    }
+
+    /// Which moment a local time means that clocks skip or show twice.
+    pub fn fold(&self) -> Option<Fold>
+        ensures { result ≡ self.now.fold }
+    {
+        self.fold
+    }
+
+    /// The name of the zone.
+    pub fn name(&self) -> &[u8]
+        ensures { result.now ≡ self.now.name }
+    {
+        &self.name
+    }
+}
+
 /// How the texts of a line become readings. A clause sees it as plain data.
 #[derive(Debug, Drop)]
 pub struct Rules {
     pub(crate) moments: Moments,
+    pub(crate) local: Option<LocalRules>,
     pub(crate) clock: Clock,
     pub(crate) mark: u8,
     pub(crate) nulls: Vec<Vec<u8>>,
@@ -89,6 +135,7 @@ impl Model for Rules {
 
     ghost view = { λ r. record {
       moments = r.moments;
+      local = r.local;
       clock = r.clock;
       mark = r.mark;
       nulls = map (λ text. text.items) r.nulls.items;
@@ -101,11 +148,12 @@ impl Model for Rules {
 impl Rules {
     ghost use Rattle.std.specs.Prelude.{◌≡◌, ◌<◌, map};
 
-    /// The rules for moments that are written in this form, by this clock. A decimal has this mark before its fraction. Each of the null
-    /// texts means that there is no value, as an empty text does. If empty ones are skipped, then a text without a value is no reading;
-    /// else it is a reading without a value.
+    /// The rules for moments that are written in this form, by this clock. Dates without an offset are local times, if there are rules for
+    /// them. A decimal has this mark before its fraction. Each of the null texts means that there is no value, as an empty text does. If
+    /// empty ones are skipped, then a text without a value is no reading; else it is a reading without a value.
     pub fn new(
         moments: Moments,
+        local: Option<LocalRules>,
         clock: Clock,
         mark: u8,
         nulls: Vec<Vec<u8>>,
@@ -113,6 +161,7 @@ impl Rules {
     ) -> Rules
         requires { 0 < clock.length }
         ensures moments { result.moments ≡ moments }
+        ensures local { result.local ≡ local }
         ensures clock { result.clock ≡ clock }
         ensures mark { result.mark ≡ mark }
         ensures nulls { result.nulls ≡ map (λ text. text.items) nulls.items }
@@ -120,6 +169,7 @@ impl Rules {
     {
         Rules {
             moments,
+            local,
             clock,
             mark,
             nulls,
@@ -132,6 +182,13 @@ impl Rules {
         ensures { result ≡ self.now.moments }
     {
         self.moments
+    }
+
+    /// How dates without an offset are read, if they are.
+    pub fn local(&self) -> &Option<LocalRules>
+        ensures { result.now ≡ self.now.local }
+    {
+        &self.local
     }
 
     /// How moments become ticks. Its length is above 0.

@@ -1,5 +1,5 @@
 -- How the readings of a query's inputs are written, and what they mean, by a choice. The inputs have names, in their order.
-use Rattle.std.specs.Prelude.{ℕ, List, Option, map}
+use Rattle.std.specs.Prelude.{ℕ, List, Option, None, map}
 use Rattle.std.specs.Option.{option_or}
 use Rattle.tilt_conventions.specs.declared.options.Options.{Options}
 use Rattle.tilt_conventions.specs.declared.options.Ties.{Ties}
@@ -15,10 +15,11 @@ abbrev pub missing_input : ChoiceValue → List (List ℕ) → Option (List ℕ)
 missing_input choice names =
     option_or (missing_among choice.scales.named names) (first_missing convention_name choice.conventions.named names)
 
--- how texts become readings
+-- how texts become readings; dates without an offset are none
 abbrev pub rules_for : ChoiceValue → RulesValue
 rules_for choice = record {
   moments = choice.moments;
+  local = None;
   clock = choice.clock;
   mark = choice.mark;
   nulls = choice.nulls;

@@ -136,7 +136,14 @@ impl ReadingChoice {
         let sources = make_sources(alloc, &self.scales, inputs)?;
         let titles = copy_titles(&self.titles)?;
         let nulls = split_nulls(alloc, &self.nulls)?;
-        let rules = Rules::new(self.moments, self.clock, self.mark, nulls, self.skips_empty);
+        let rules = Rules::new(
+            self.moments,
+            None,
+            self.clock,
+            self.mark,
+            nulls,
+            self.skips_empty,
+        );
         let options = make_options(alloc, &self.conventions, self.ties, inputs)?;
         let form = ReadingForm {
             delimiter: self.delimiter,

@@ -18,6 +18,8 @@ use Rattle.tilt_readings.specs.declared.fault.DateFault.{DateFault}
 use Rattle.tilt_readings.specs.declared.fault.DateFault.TheVariants as date
 use Rattle.tilt_readings.specs.declared.fault.DecimalFault.{DecimalFault}
 use Rattle.tilt_readings.specs.declared.fault.DecimalFault.TheVariants as decimal
+use Rattle.tilt_zones.specs.declared.fault.LocalFault.{LocalFault}
+use Rattle.tilt_zones.specs.declared.fault.LocalFault.TheVariants as local
 
 -- the number of the reason, and what is said after the number of the line: of a header,
 abbrev pub header_front : HeaderFault → List ℕ
@@ -41,6 +43,7 @@ abbrev pub unread_front : LineFault → List ℕ
 unread_front unread.NotOneRecord = codes "93"
 unread_front (unread.FieldCount expected) = codes "94"
 unread_front (unread.BadDate fault) = codes "95"
+unread_front (unread.BadLocal fault) = codes "95"
 unread_front (unread.BadNumber fault) = codes "95"
 unread_front unread.TimeOutOfRange = codes "96"
 unread_front unread.NoName = codes "97"
@@ -51,6 +54,11 @@ date_reason date.NotDate = codes ": bad time: no date with an offset\n"
 date_reason date.NoSuchTime = codes ": bad time: no such day or time\n"
 date_reason date.TooFine = codes ": bad time: finer than a nanosecond\n"
 date_reason date.OutOfYears = codes ": bad time: not in the years 1 to 9999\n"
+
+abbrev pub local_reason : LocalFault → List ℕ
+local_reason local.Skipped = codes ": bad time: the clocks of the zone skip this local time\n"
+local_reason local.Doubled = codes ": bad time: the clocks of the zone show this local time twice\n"
+local_reason local.Beyond = codes ": bad time: the table of the zone ends before this local time\n"
 
 abbrev pub number_reason : DecimalFault → List ℕ
 number_reason decimal.NotDecimal = codes ": bad time: not a number\n"
@@ -66,6 +74,7 @@ abbrev pub unread_reason : LineFault → List ℕ
 unread_reason unread.NotOneRecord = codes ": not one record\n"
 unread_reason (unread.FieldCount expected) = codes ": not " ++ (decimal expected ++ codes " fields\n")
 unread_reason (unread.BadDate fault) = date_reason fault
+unread_reason (unread.BadLocal fault) = local_reason fault
 unread_reason (unread.BadNumber fault) = number_reason fault
 unread_reason unread.TimeOutOfRange = codes ": time out of range\n"
 unread_reason unread.NoName = codes ": no name\n"

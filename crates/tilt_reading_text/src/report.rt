@@ -3,7 +3,7 @@ ghost use Rattle.std.specs.Prelude.{◌≡◌, ◌+◌, ◌++◌, ◌<◌, ◌^�
 ghost use Rattle.std.specs.Fmt.{decimal};
 ghost use Rattle.tilt_outside.specs.Written.{Puts};
 ghost use Rattle.tilt_reading_text.specs.Report.{bad_front, bad_reason, column_text, date_reason, feed_front, feed_reason, header_front};
-ghost use Rattle.tilt_reading_text.specs.Report.{header_reason, number_reason, report, turn_front, turn_reason, unread_front};
+ghost use Rattle.tilt_reading_text.specs.Report.{header_reason, local_reason, number_reason, report, turn_front, turn_reason, unread_front};
 ghost use Rattle.tilt_reading_text.specs.Report.{unread_reason, value_reason};
 
 use crate::bad_reading_line::BadReadingLine;
@@ -13,6 +13,7 @@ use tilt_outside::{Failed, Sink};
 use tilt_reading_feed::FeedFault;
 use tilt_reading_lines::{Column, HeaderFault, LineFault};
 use tilt_readings::{DateFault, DecimalFault};
+use tilt_zones::LocalFault;
 
 /// Writes the line that reports a bad line, by its number from 1. Inputs are counted from 1 there too. It takes no memory.
 pub fn put_report<E: Sink>(err: &mut E, number: u64, why: BadReadingLine) -> Result<(), Failed>
@@ -108,6 +109,7 @@ fn put_unread_reason<E: Sink>(err: &mut E, fault: LineFault) -> Result<(), Faile
             put_with_number(err, b": not ", expected as u64, b" fields\n")
         }
         LineFault::BadDate(fault) => put(err, date_reason(fault)),
+        LineFault::BadLocal(fault) => put(err, local_reason(fault)),
         LineFault::BadNumber(fault) => put(err, number_reason(fault)),
         LineFault::TimeOutOfRange => put(err, b": time out of range\n"),
         LineFault::NoName => put(err, b": no name\n"),
@@ -229,6 +231,7 @@ fn unread_front(fault: LineFault) -> &'static [u8]
         LineFault::NotOneRecord => b"93",
         LineFault::FieldCount { .. } => b"94",
         LineFault::BadDate(_) => b"95",
+        LineFault::BadLocal(_) => b"95",
         LineFault::BadNumber(_) => b"95",
         LineFault::TimeOutOfRange => b"96",
         LineFault::NoName => b"97",
@@ -269,6 +272,17 @@ fn date_reason(fault: DateFault) -> &'static [u8]
         DateFault::NoSuchTime => b": bad time: no such day or time\n",
         DateFault::TooFine => b": bad time: finer than a nanosecond\n",
         DateFault::OutOfYears => b": bad time: not in the years 1 to 9999\n",
+    }
+}
+
+// Why a local time has no moment, in words.
+fn local_reason(fault: LocalFault) -> &'static [u8]
+    ensures { result.now ≡ local_reason fault }
+{
+    match fault {
+        LocalFault::Skipped => b": bad time: the clocks of the zone skip this local time\n",
+        LocalFault::Doubled => b": bad time: the clocks of the zone show this local time twice\n",
+        LocalFault::Beyond => b": bad time: the table of the zone ends before this local time\n",
     }
 }
 

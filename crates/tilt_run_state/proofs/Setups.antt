@@ -1,29 +1,28 @@
 -- Setups with the same spelling are the same.
-use Rattle.std.proofs.Common.{◌≡◌, ℕ, Bool, true, false, if◌then◌else◌, List, [], ◌∷◌, ◌++◌, length, Option, refl, sym, ap, subst, ◌∙◌, arith, append_assoc}
-use Rattle.std.specs.Prelude.{◌==◌, codes, get_or, FitsSigned, ℤ, ⊤}
+use Rattle.std.proofs.Common.{◌≡◌, ℕ, Bool, true, false, if◌then◌else◌, List, [], ◌++◌, Option, None, Some, pos, refl, sym, ap, ◌∙◌, arith, append_assoc}
+use Rattle.std.specs.Prelude.{◌==◌, codes, get_or, FitsSigned, ℤ}
 use Rattle.std.specs.Fmt.{decimal, signed_decimal}
 use Rattle.std.specs.Int.{w128}
-use Rattle.std.specs.Option.{ForSome}
 use Rattle.std.proofs.lemmas.List.{append_cancel_left}
 use Rattle.tilt_text.proofs.Lacks.{Lacks}
-use Rattle.tilt_conventions.specs.declared.options.Convention.{Convention}
 use Rattle.tilt_conventions.specs.declared.options.Convention.TheVariants.{Hold, Event}
-use Rattle.tilt_conventions.specs.declared.options.Options.{Options}
 use Rattle.tilt_conventions.specs.declared.options.Ties.{Ties}
 use Rattle.tilt_conventions.specs.declared.options.Ties.TheVariants.{First, Last, Refuse, Spread}
 use Rattle.tilt_feed_form.specs.Setup.{SetupParts}
-use Rattle.tilt_live_state.specs.Spelling.{flag_text, line, ticks_text}
-use Rattle.tilt_reading_lines.specs.Rules.{RulesValue, SourceValue}
-use Rattle.tilt_reading_lines.specs.Titles.{TitlesValue, Named, OfInputs}
+use Rattle.tilt_live_state.specs.Spelling.{flag_text, line}
+use Rattle.tilt_reading_lines.specs.Rules.{LocalValue, RulesValue, SourceValue}
+use Rattle.tilt_reading_lines.specs.Titles.{Named, OfInputs}
 use Rattle.tilt_reading_lines.specs.declared.rules.Moments.{Moments}
 use Rattle.tilt_reading_lines.specs.declared.rules.Moments.TheVariants.{Dates, Numbers}
 use Rattle.tilt_reading_text.specs.Form.{FormValue}
 use Rattle.tilt_readings.specs.declared.epoch.Unit.TheVariants.{Seconds, Milliseconds, Microseconds, Nanoseconds}
-use Rattle.tilt_readings.specs.declared.tick.Clock.{Clock}
 use Rattle.tilt_readings.specs.declared.tick.Closed.{Closed}
 use Rattle.tilt_readings.specs.declared.tick.Closed.TheVariants.{Left, Right}
-use Rattle.tilt_run_state.specs.Setup.{clock_lines, closed_text, convention_line, counted_lines, form_lines, meaning_lines, moments_text, null_line, rules_lines, setup_lines, source_lines, text_line, ties_text, titles_lines}
-use Rattle.tilt_run_state.specs.Numbers.{AreAll, AreRules, AreTitles, HasNumbers, IsClock, IsConvention, IsForm, IsMeaning, IsNumber, IsSource, IsText}
+use Rattle.tilt_run_state.specs.Setup.{clock_lines, closed_text, convention_line, counted_lines, fold_text, form_lines, local_lines, local_without_table, meaning_lines, moments_text}
+use Rattle.tilt_run_state.specs.Setup.{null_line, rules_lines, setup_lines, source_lines, text_line, ties_text, titles_lines, without_table}
+use Rattle.tilt_run_state.specs.Numbers.{AreAll, AreRules, AreTitles, HasNumbers, IsClock, IsConvention, IsForm, IsLocal, IsMeaning, IsNumber, IsSource, IsText}
+use Rattle.tilt_zones.specs.declared.moments.Fold.{Fold}
+use Rattle.tilt_zones.specs.declared.moments.Fold.TheVariants as fold
 use Rattle.tilt_run_state.proofs.Splitting.{Splits, pair-splits}
 use Rattle.tilt_run_state.proofs.Texts.{counted-splits, number-splits, signed-splits, text-splits, ticks-splits, word-splits}
 
@@ -64,6 +63,22 @@ moments-lack (Numbers Seconds) = refl
 moments-lack (Numbers Milliseconds) = refl
 moments-lack (Numbers Microseconds) = refl
 moments-lack (Numbers Nanoseconds) = refl
+
+abbrev fold_of : List ℕ → Option Fold
+fold_of word =
+    if get_or word 0 0 == 110 then None
+    else if get_or word 0 0 == 102 then Some fold.First
+    else Some fold.Second
+
+fold-back : (fold : Option Fold) → fold_of (fold_text fold) ≡ fold
+fold-back None = refl
+fold-back (Some fold.First) = refl
+fold-back (Some fold.Second) = refl
+
+fold-lacks : (fold : Option Fold) → Lacks 10 (fold_text fold)
+fold-lacks None = refl
+fold-lacks (Some fold.First) = refl
+fold-lacks (Some fold.Second) = refl
 
 abbrev ties_of : List ℕ → Ties
 ties_of word =
@@ -129,7 +144,12 @@ clock-splits a b x y p q e =
     let s = three (a.length, (a.origin, a.closed)) (b.length, (b.origin, b.closed)) x y (p.tick, (p.origin, tt)) (q.tick, (q.origin, tt)) e in
     (λ i. record { origin = (s.0 i).1.0; length = (s.0 i).0; closed = (s.0 i).1.1 }, s.1)
 
-rules-splits : Splits AreRules rules_lines
+-- rules without those of local times, which come after them
+abbrev without_local : RulesValue → RulesValue
+without_local rules = record rules { local = None }
+
+rules-splits : (a b : RulesValue) (x y : List ℕ) → AreRules a → AreRules b → rules_lines a ++ x ≡ rules_lines b ++ y
+    → (without_local a ≡ without_local b) × (x ≡ y)
 rules-splits a b x y p q e =
     let nulls = counted-splits IsText null_line (codes "nulls") (text-splits (codes "null")) in
     let two = pair-splits (AreAll IsText) (λ _. Unit {0}) (counted_lines (codes "nulls") null_line) (λ f. line (codes "skips") (flag_text f))
@@ -144,7 +164,7 @@ rules-splits a b x y p q e =
     clock-splits four in
     let s = five (a.clock, (a.moments, (a.mark, (a.nulls, a.skips_empty)))) (b.clock, (b.moments, (b.mark, (b.nulls, b.skips_empty)))) x y
     (p.clock, (tt, (p.mark, (p.nulls, tt)))) (q.clock, (tt, (q.mark, (q.nulls, tt)))) e in
-    (λ i. record { moments = (s.0 i).1.0; clock = (s.0 i).0; mark = (s.0 i).1.1.0; nulls = (s.0 i).1.1.1.0; skips_empty = (s.0 i).1.1.1.1 }, s.1)
+    (λ i. record { moments = (s.0 i).1.0; local = None; clock = (s.0 i).0; mark = (s.0 i).1.1.0; nulls = (s.0 i).1.1.1.0; skips_empty = (s.0 i).1.1.1.1 }, s.1)
 
 -- forms
 
@@ -154,17 +174,58 @@ source-splits a b x y p q e =
     let s = two (a.name, a.scale) (b.name, b.scale) x y (p.name, p.scale) (q.name, q.scale) e in
     (λ i. record { name = (s.0 i).0; scale = (s.0 i).1 }, s.1)
 
-form-splits : Splits IsForm form_lines
+-- rules of local times, without the table of their zone
+zone-splits : (a b : LocalValue) (x y : List ℕ) → IsText a.name → IsText b.name → local_lines (Some a) ++ x ≡ local_lines (Some b) ++ y
+    → (local_without_table (Some a) ≡ local_without_table (Some b)) × (x ≡ y)
+zone-splits a b x y p q e =
+    let two = pair-splits IsText (λ _. Unit {0}) (text_line (codes "zone")) (λ f. line (codes "fold") (fold_text f))
+    (text-splits (codes "zone")) (word-splits fold_text fold_of (codes "fold") fold-lacks fold-back) in
+    let s = two (a.name, a.fold) (b.name, b.fold) x y (p, tt) (q, tt) e in
+    (λ i. Some (record { zone = record { first = pos 0; transitions = []; end = pos 0 }; fold = (s.0 i).1; name = (s.0 i).0 }), s.1)
+
+abbrev sources_lines : List SourceValue → List ℕ
+sources_lines = counted_lines (codes "sources") source_lines
+
+sources-splits : Splits (AreAll IsSource) sources_lines
+sources-splits = counted-splits IsSource source_lines (codes "sources") source-splits
+
+-- and the inputs after them
+local-splits : (a b : Option LocalValue) (u v : List SourceValue) (x y : List ℕ) → IsLocal a → IsLocal b → AreAll IsSource u → AreAll IsSource v
+    → (local_lines a ++ sources_lines u) ++ x ≡ (local_lines b ++ sources_lines v) ++ y
+    → (local_without_table a ≡ local_without_table b) × (u ≡ v) × (x ≡ y)
+local-splits None None u v x y p q r t e = let s = sources-splits u v x y r t e in (refl, s.0, s.1)
+local-splits None (Some b) u v x y p q r t e = absurd (omega (arith, ap head e))
+local-splits (Some a) None u v x y p q r t e = absurd (omega (arith, ap head e))
+local-splits (Some a) (Some b) u v x y p q r t e =
+    let one = zone-splits a b (sources_lines u ++ x) (sources_lines v ++ y) p q
+    (sym (append_assoc (local_lines (Some a)) (sources_lines u) x) ∙ e ∙ append_assoc (local_lines (Some b)) (sources_lines v) y) in
+    let more = sources-splits u v x y r t one.1 in
+    (one.0, more.0, more.1)
+
+-- a first part, and what follows it
+first-part : {A : Type 0} (P : A → Type 0) (f : A → List ℕ) → Splits P f → (a b : A) (u v x y : List ℕ) → P a → P b
+    → (f a ++ u) ++ x ≡ (f b ++ v) ++ y → (a ≡ b) × (u ++ x ≡ v ++ y)
+first-part P f splits a b u v x y p q e =
+    splits a b (u ++ x) (v ++ y) p q (sym (append_assoc (f a) u x) ∙ e ∙ append_assoc (f b) v y)
+
+abbrev form_without_table : FormValue → FormValue
+form_without_table form = record form { rules = record form.rules { local = local_without_table form.rules.local } }
+
+abbrev local_and_sources : FormValue → List ℕ
+local_and_sources form = local_lines form.rules.local ++ sources_lines form.sources
+
+form-splits : (a b : FormValue) (x y : List ℕ) → IsForm a → IsForm b → form_lines a ++ x ≡ form_lines b ++ y
+    → (form_without_table a ≡ form_without_table b) × (x ≡ y)
 form-splits a b x y p q e =
-    let two = pair-splits AreRules (AreAll IsSource) rules_lines (counted_lines (codes "sources") source_lines) rules-splits
-    (counted-splits IsSource source_lines (codes "sources") source-splits) in
-    let three = pair-splits AreTitles (λ (r : RulesValue × List SourceValue). AreRules r.0 × AreAll IsSource r.1) titles_lines
-    (λ r. rules_lines r.0 ++ counted_lines (codes "sources") source_lines r.1) titles-splits two in
-    let four = pair-splits IsNumber (λ (r : TitlesValue × (RulesValue × List SourceValue)). AreTitles r.0 × (AreRules r.1.0 × AreAll IsSource r.1.1)) (λ n. line (codes "delimiter") (decimal n))
-    (λ r. titles_lines r.0 ++ (rules_lines r.1.0 ++ counted_lines (codes "sources") source_lines r.1.1)) (number-splits 10 (omega arith) (codes "delimiter")) three in
-    let s = four (a.delimiter, (a.titles, (a.rules, a.sources))) (b.delimiter, (b.titles, (b.rules, b.sources))) x y
-    (p.delimiter, (p.titles, (p.rules, p.sources))) (q.delimiter, (q.titles, (q.rules, q.sources))) e in
-    (λ i. record { delimiter = (s.0 i).0; titles = (s.0 i).1.0; rules = (s.0 i).1.1.0; sources = (s.0 i).1.1.1 }, s.1)
+    let one = first-part IsNumber (λ n. line (codes "delimiter") (decimal n)) (number-splits 10 (omega arith) (codes "delimiter")) a.delimiter b.delimiter
+    (titles_lines a.titles ++ (rules_lines a.rules ++ local_and_sources a)) (titles_lines b.titles ++ (rules_lines b.rules ++ local_and_sources b))
+    x y p.delimiter q.delimiter e in
+    let two = first-part AreTitles titles_lines titles-splits a.titles b.titles (rules_lines a.rules ++ local_and_sources a)
+    (rules_lines b.rules ++ local_and_sources b) x y p.titles q.titles one.1 in
+    let three = rules-splits a.rules b.rules (local_and_sources a ++ x) (local_and_sources b ++ y) p.rules q.rules
+    (sym (append_assoc (rules_lines a.rules) (local_and_sources a) x) ∙ two.1 ∙ append_assoc (rules_lines b.rules) (local_and_sources b) y) in
+    let four = local-splits a.rules.local b.rules.local a.sources b.sources x y p.rules.local q.rules.local p.sources q.sources three.1 in
+    (λ i. record { delimiter = one.0 i; titles = two.0 i; rules = record (three.0 i) { local = four.0 i }; sources = four.1 i }, four.2)
 
 -- what readings mean
 
@@ -183,9 +244,20 @@ meaning-splits a b x y p q e =
 
 -- setups
 
-pub setup-splits : Splits HasNumbers setup_lines
+pub setup-splits : (a b : SetupParts) (x y : List ℕ) → HasNumbers a → HasNumbers b → setup_lines a ++ x ≡ setup_lines b ++ y
+    → without_table a ≡ without_table b
 setup-splits a b x y p q e =
-    let two = pair-splits IsForm (AreAll IsMeaning) form_lines (counted_lines (codes "meanings") meaning_lines) form-splits
-    (counted-splits IsMeaning meaning_lines (codes "meanings") meaning-splits) in
-    let s = two (a.form, a.options) (b.form, b.options) x y (p.form, p.options) (q.form, q.options) e in
-    (λ i. record { form = (s.0 i).0; options = (s.0 i).1 }, s.1)
+    let one = form-splits a.form b.form (counted_lines (codes "meanings") meaning_lines a.options ++ x)
+    (counted_lines (codes "meanings") meaning_lines b.options ++ y) p.form q.form
+    (sym (append_assoc (form_lines a.form) (counted_lines (codes "meanings") meaning_lines a.options) x) ∙ e
+    ∙ append_assoc (form_lines b.form) (counted_lines (codes "meanings") meaning_lines b.options) y) in
+    let two = counted-splits IsMeaning meaning_lines (codes "meanings") meaning-splits a.options b.options x y p.options q.options one.1 in
+    λ i. record { form = one.0 i; options = two.0 i }
+
+-- nothing is left out without a zone
+no_table : (local : Option LocalValue) → local ≡ None → local_without_table local ≡ local
+no_table None none = refl
+no_table (Some rules) none = cc
+
+pub whole : (a : SetupParts) → a.form.rules.local ≡ None → without_table a ≡ a
+whole a none = ap (λ (l : Option LocalValue). record a { form = record a.form { rules = record a.form.rules { local = l } } }) (no_table a.form.rules.local none)

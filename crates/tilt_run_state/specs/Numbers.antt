@@ -1,5 +1,5 @@
 -- The numbers of setups as the code has them: whole numbers and lengths are below 2 ^ 64, and an origin is a 128-bit number.
-use Rattle.std.specs.Prelude.{◌<◌, ◌^◌, ⊤, ℕ, List, length, FitsSigned}
+use Rattle.std.specs.Prelude.{◌<◌, ◌^◌, ⊤, ℕ, List, length, Option, None, Some, FitsSigned}
 use Rattle.std.specs.Int.{w128}
 use Rattle.std.specs.List.{AllByRecursion}
 use Rattle.std.specs.Option.{ForSome}
@@ -7,7 +7,7 @@ use Rattle.tilt_conventions.specs.declared.options.Convention.{Convention}
 use Rattle.tilt_conventions.specs.declared.options.Convention.TheVariants.{Hold, Event}
 use Rattle.tilt_conventions.specs.declared.options.Options.{Options}
 use Rattle.tilt_feed_form.specs.Setup.{SetupParts}
-use Rattle.tilt_reading_lines.specs.Rules.{RulesValue, SourceValue}
+use Rattle.tilt_reading_lines.specs.Rules.{LocalValue, RulesValue, SourceValue}
 use Rattle.tilt_reading_lines.specs.Titles.{TitlesValue, TitlesValue as titles}
 use Rattle.tilt_reading_text.specs.Form.{FormValue}
 use Rattle.tilt_readings.specs.declared.tick.Clock.{Clock}
@@ -34,11 +34,17 @@ pub record IsClock (clock : Clock) : Type 0 where
   pub tick : IsNumber clock.length
   pub origin : FitsSigned w128 clock.origin
 
+-- of rules for local times
+abbrev pub IsLocal : Option LocalValue → Type 0
+IsLocal None = ⊤
+IsLocal (Some rules) = IsText rules.name
+
 -- of rules
 pub record AreRules (rules : RulesValue) : Type 0 where
   pub clock : IsClock rules.clock
   pub mark : IsNumber rules.mark
   pub nulls : AreAll IsText rules.nulls
+  pub local : IsLocal rules.local
 
 -- of an input
 pub record IsSource (source : SourceValue) : Type 0 where

@@ -10,8 +10,8 @@
 //!
 //! The clause of `encode` says that exactly the spelling is appended. `put_opening` appends what the states of all runs over a feed begin
 //! with, and `put_state` the rest. By the clauses of `read_state` a state is read exactly if the text spells a valid one of this query, and
-//! each error has its exact cause (`RejectsState`). `setups_are_apart` says that two setups with the same spelling are the same. Nothing
-//! here reads or writes files.
+//! each error has its exact cause (`RejectsState`). `setups_are_apart` says that two setups with the same spelling are the same except for
+//! the tables of their zones. Nothing here reads or writes files.
 #![tactic(auto)]
 
 mod decoder;

@@ -1,19 +1,21 @@
 // The spelling of a setup.
-ghost use Rattle.std.specs.Prelude.{◌≡◌, ◌++◌, codes, flat_map, map, OnOk};
+ghost use Rattle.std.specs.Prelude.{◌≡◌, ◌++◌, codes, flat_map, map, OnOk, Some};
 ghost use Rattle.std.specs.Fmt.{decimal, signed_decimal};
 ghost use Rattle.tilt_live_state.specs.Spelling.{flag_text, line};
 ghost use Rattle.tilt_reading_lines.specs.Titles.{titles_of};
-ghost use Rattle.tilt_run_state.specs.Setup.{clock_lines, closed_text, convention_line, counted_lines, form_lines, meaning_lines};
-ghost use Rattle.tilt_run_state.specs.Setup.{moments_text, null_line, rules_lines, setup_lines, source_lines, text_line, ties_text};
+ghost use Rattle.tilt_run_state.specs.Setup.{clock_lines, closed_text, convention_line, counted_lines, fold_text, form_lines};
+ghost use Rattle.tilt_run_state.specs.Setup.{local_lines, meaning_lines, moments_text, null_line, rules_lines, setup_lines};
+ghost use Rattle.tilt_run_state.specs.Setup.{source_lines, text_line, ties_text};
 ghost use Rattle.tilt_run_state.specs.Setup.{titles_lines};
 
 use std::alloc::AllocError as OutOfMemory;
 use tilt_conventions::{Convention, Options, Ties};
 use tilt_feed_form::ReadingSetup;
-use tilt_reading_lines::{Moments, Rules, Source, Titles};
+use tilt_reading_lines::{LocalRules, Moments, Rules, Source, Titles};
 use tilt_reading_text::ReadingForm;
 use tilt_readings::{Clock, Closed, Unit};
 use tilt_text::{put, put_number};
+use tilt_zones::Fold;
 
 // Appends the lines of a setup.
 pub(crate) fn put_setup(text: &mut Vec<u8>, setup: &ReadingSetup) -> Result<(), OutOfMemory>
@@ -30,6 +32,7 @@ fn put_form(text: &mut Vec<u8>, form: &ReadingForm) -> Result<(), OutOfMemory>
     put_count(text, b"delimiter", u64::from(form.delimiter))?;
     put_titles(text, &form.titles)?;
     put_rules(text, &form.rules)?;
+    put_local(text, form.rules.local())?;
     put_sources(text, &form.sources)
 }
 
@@ -60,6 +63,24 @@ fn put_rules(text: &mut Vec<u8>, rules: &Rules) -> Result<(), OutOfMemory>
     put_count(text, b"mark", u64::from(rules.mark()))?;
     put_nulls(text, rules.nulls())?;
     put_word(text, b"skips", flag_text(rules.skips_empty()))
+}
+
+// Appends the lines of rules for local times, if there are any.
+fn put_local(text: &mut Vec<u8>, local: &Option<LocalRules>) -> Result<(), OutOfMemory>
+    ensures { OnOk result (text.new.items ≡ text.old.items ++ local_lines local.now) }
+{
+    match local {
+        Some(rules) => put_zone(text, rules),
+        None => Ok(()),
+    }
+}
+
+// Appends the lines of rules for local times.
+fn put_zone(text: &mut Vec<u8>, rules: &LocalRules) -> Result<(), OutOfMemory>
+    ensures { OnOk result (text.new.items ≡ text.old.items ++ local_lines (Some rules.now)) }
+{
+    put_text(text, b"zone", rules.name())?;
+    put_word(text, b"fold", fold_text(rules.fold()))
 }
 
 // Appends the lines of a clock.
@@ -182,6 +203,17 @@ fn moments_text(moments: Moments) -> &'static [u8]
         Moments::Numbers {
             unit: Unit::Nanoseconds,
         } => b"ns",
+    }
+}
+
+// The word for which moment a local time means that clocks skip or show twice.
+fn fold_text(fold: Option<Fold>) -> &'static [u8]
+    ensures { result.now ≡ fold_text fold }
+{
+    match fold {
+        None => b"none",
+        Some(Fold::First) => b"first",
+        Some(Fold::Second) => b"second",
     }
 }
 

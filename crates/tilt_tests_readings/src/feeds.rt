@@ -119,7 +119,7 @@ fn read_all(
     if sources.len() > 100 {
         return Err("too many sources".into());
     }
-    let rules = Rules::new(Moments::Dates, CLOCK, b'.', Vec::new(alloc), false);
+    let rules = Rules::new(Moments::Dates, None, CLOCK, b'.', Vec::new(alloc), false);
     let mut reader = ReadingReader::new(alloc, b',');
     let columns = reader.read_header(header, titles, sources)?;
     let mut readings = Vec::new(alloc);

@@ -2,7 +2,7 @@
 //! texts; and of options.
 //!
 //! The expected values are those of Python's modules `decimal` and `datetime`. Ticks are those of `floor` and `ceil` of Python's integers.
-//! The rows of feeds are those that `tilt-data series` writes.
+//! //! Moments of local times are those of its module `zoneinfo`. The rows of feeds are those that `tilt-data series` writes.
 #![tactic(auto)]
 
 #[cfg(test)]
@@ -21,3 +21,5 @@ mod rows;
 mod texts;
 #[cfg(test)]
 mod ticks;
+#[cfg(test)]
+mod zones;

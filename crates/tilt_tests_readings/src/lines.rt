@@ -121,7 +121,7 @@ fn make_sources(alloc: Global) -> Result<Vec<Source>, Fail> {
 fn make_rules(alloc: Global) -> Result<Rules, Fail> {
     let mut nulls = Vec::new(alloc);
     nulls.push(b"NaN".as_slice().to_vec(alloc)?)?;
-    Ok(Rules::new(Moments::Dates, CLOCK, b'.', nulls, false))
+    Ok(Rules::new(Moments::Dates, None, CLOCK, b'.', nulls, false))
 }
 
 #[test]

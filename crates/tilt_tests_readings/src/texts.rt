@@ -50,7 +50,7 @@ fn make_form(alloc: Global) -> Result<ReadingForm, Fail> {
         titles: Titles::OfInputs {
             time: b"time".as_slice().to_vec(alloc)?,
         },
-        rules: Rules::new(Moments::Dates, CLOCK, b'.', Vec::new(alloc), false),
+        rules: Rules::new(Moments::Dates, None, CLOCK, b'.', Vec::new(alloc), false),
         sources,
     })
 }

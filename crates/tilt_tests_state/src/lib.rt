@@ -7,3 +7,5 @@ mod readings;
 mod runs;
 #[cfg(test)]
 mod texts;
+#[cfg(test)]
+mod zones;
