@@ -72,3 +72,7 @@ digit_is ds i all h =
     let range = digit_range ds i all h in
     let value = digit_value_digit (get_or ds i 0) range in
     omega arith
+
+-- one digit more spells a number below the next power of ten
+pub digit_fits : (number digit i : ℕ) → number < 10 ^ i → digit ≤ 9 → number * 10 + digit < 10 ^ (i + 1)
+digit_fits number digit i small low = rw add-one (omega (arith, pow-suc 10 i))

@@ -3,6 +3,12 @@ ghost use Rattle.std.specs.Prelude.{◌≡◌, ◌≢◌, ℕ, ◌+◌, ◌-◌,
 ghost use Rattle.std.specs.Str.{all_ascii_digits};
 ghost use Rattle.std.specs.Str.Parse.{digits_value};
 
+// So many digits spell a number of 64 bits, whichever they are.
+const MOST: usize = 18;
+
+// Ten times a scale up to it is a number of 64 bits.
+const HIGHEST: u64 = 1_000_000_000_000_000_000;
+
 /// Whether all bytes are digits.
 pub(crate) fn are_digits(bytes: &[u8]) -> bool
     ensures { result ≡ all_ascii_digits bytes.now }
@@ -20,6 +26,9 @@ pub(crate) fn value_of(digits: &[u8]) -> Option<u128>
     requires { all_ascii_digits digits.now ≡ true }
     ensures { MatchOption result (2 ^ 128 ≤ digits_value 10 digits.now) (λ n. n ≡ digits_value 10 digits.now) }
 {
+    if digits.len() <= MOST {
+        return Some(u128::from(value_of_few(digits)));
+    }
     let mut number = 0u128;
     for digit in digits {
         number = number
@@ -27,6 +36,19 @@ pub(crate) fn value_of(digits: &[u8]) -> Option<u128>
             .checked_add(u128::from(*digit - b'0'))?;
     }
     Some(number)
+}
+
+// The number that a few digits spell.
+fn value_of_few(digits: &[u8]) -> u64
+    requires digits { all_ascii_digits digits.now ≡ true }
+    requires few { length digits.now ≤ 18 }
+    ensures { result ≡ digits_value 10 digits.now }
+{
+    let mut number = 0u64;
+    for digit in digits {
+        number = number * 10 + u64::from(*digit - b'0');
+    }
+    number
 }
 
 /// The decimals that the digits spell, times a scale, or `None` if that isn't whole. It is worked out from the last digit to the first,
@@ -55,6 +77,14 @@ fn carry_digit(digit: u8, scale: u64, carried: u128) -> Option<u128>
         ((n : ℕ) → (digit - 48) * scale + carried ≢ n * 10)
         (λ n. ((digit - 48) * scale + carried ≡ n * 10) × (n ≤ scale)) }
 {
+    if scale <= HIGHEST {
+        let sum = u64::from(digit - b'0') * scale + carried as u64;
+        return if sum % 10 == 0 {
+            Some(u128::from(sum / 10))
+        } else {
+            None
+        };
+    }
     let sum = u128::from(digit - b'0') * u128::from(scale) + carried;
     if sum % 10 == 0 { Some(sum / 10) } else { None }
 }

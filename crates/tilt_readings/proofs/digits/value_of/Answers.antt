@@ -16,12 +16,13 @@ pub returns-in_err-number : goal.returns-in_err-number
 returns-in_err-number c =
     let low = read_so_far c.args.digits.now c.loop-digit.digit-index c.loop-digit.number c.loop-digit-test.true c.loop-digit.invariant in
     let digit = digit_is c.args.digits.now c.loop-digit.digit-index c.requires c.loop-digit-test.true in
-    rw c.from_residual-in_err-number.ensures (omega (arith, c.in_err-number.ensures, c.in_ok-checked_mul.ensures, c.from.ensures, digit, low))
+    rw c.from_residual-in_err-number.ensures (omega (arith, c.in_err-number.ensures, c.in_ok-checked_mul.ensures, c.from-in-loop-digit.ensures, digit, low))
 
 pub loop-digit-preserved : goal.loop-digit-preserved
 loop-digit-preserved c =
     let ds = c.args.digits.now in
     let i = c.loop-digit.digit-index in
     let digit = digit_is ds i c.requires c.loop-digit-test.true in
-    let same : c.in_ok-number.number ≡ c.loop-digit.number * 10 + digit_value (get_or ds i 0) = omega (arith, c.in_ok-number.ensures, c.in_ok-checked_mul.ensures, c.from.ensures, digit) in
+    let same : c.in_ok-number.number ≡ c.loop-digit.number * 10 + digit_value (get_or ds i 0) =
+    omega (arith, c.in_ok-number.ensures, c.in_ok-checked_mul.ensures, c.from-in-loop-digit.ensures, digit) in
     ap (λ n. digits_value_after 10 n (drop (i + 1) ds)) same ∙ sym (next_digit ds i c.loop-digit.number c.loop-digit-test.true) ∙ c.loop-digit.invariant
