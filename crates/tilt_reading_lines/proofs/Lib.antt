@@ -2,5 +2,8 @@ pub mod Each
 pub mod Nulls
 pub mod Only
 pub mod Places
+pub mod PlainLines
+pub mod PlainWords
 pub mod Said
+pub mod ThreeWords
 pub mod Ticks

@@ -1,6 +1,8 @@
 pub mod Delimiter
 pub mod Header
+pub mod LineFields
 pub mod Lines
+pub mod Plain
 pub mod Records
 pub mod Rules
 pub mod Tick

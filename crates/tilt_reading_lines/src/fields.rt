@@ -1,8 +1,8 @@
 // From the fields of a record to what they say.
 ghost use Rattle.std.specs.Prelude.{◌≡◌, ◌<◌, ◌<ℤ◌, ◌^◌, ◌++◌, [], get_or, length, neg_ℤ, OnOk};
 ghost use Rattle.std.specs.Option.{ForSome};
-ghost use Rattle.csv.specs.Records.{fields_of};
 ghost use Rattle.tilt_base.specs.declared.limits.TheConstants.{T};
+ghost use Rattle.tilt_reading_lines.specs.LineFields.{fields_in};
 ghost use Rattle.tilt_reading_lines.specs.Lines.{Fills, Gives, appended, each_reading, fields_said, known_said, listed, named_said};
 ghost use Rattle.tilt_reading_lines.specs.Lines.{reading_said, source_named};
 ghost use Rattle.tilt_reading_lines.specs.Lines.{named_reading, values_said};
@@ -10,15 +10,15 @@ ghost use Rattle.tilt_reading_lines.specs.Rules.{layout_of, values_of};
 
 use crate::columns::{Columns, ValueColumns};
 use crate::fault::{LineFault, ReadLineFault};
+use crate::line_fields::LineFields;
 use crate::rules::{InputReading, Rules, Source};
 use crate::tick::read_tick;
 use crate::value::read_reading;
-use csv::ByteRecord;
 use std::alloc::AllocError as OutOfMemory;
 
 // What the fields say: the readings are appended, and the result is a tick up to which all inputs are known, if they say that.
 pub(crate) fn read_said(
-    row: &ByteRecord,
+    fields: &LineFields<'_>,
     columns: &Columns,
     rules: &Rules,
     sources: &[Source],
@@ -26,19 +26,19 @@ pub(crate) fn read_said(
 ) -> Result<Option<i64>, ReadLineFault>
     requires few { length sources.now < 2 ^ 32 }
     requires empty { readings.old.items ≡ [] }
-    ensures { Gives result readings.new.items (fields_said (layout_of columns.now) rules.now sources.now (fields_of row.now)) }
+    ensures { Gives result readings.new.items (fields_said (layout_of columns.now) rules.now sources.now (fields_in fields.now)) }
 {
     let count = columns.count;
-    if row.len() != count {
+    if fields.len() != count {
         return Err(ReadLineFault::BadLine(LineFault::FieldCount { expected: count }));
     }
-    let tick = read_tick(rules, field(row, columns.time))?;
-    read_values(row, &columns.values, rules, sources, tick, readings)
+    let tick = read_tick(rules, fields.at(columns.time))?;
+    read_values(fields, &columns.values, rules, sources, tick, readings)
 }
 
 // What the values of a record say.
 fn read_values(
-    row: &ByteRecord,
+    fields: &LineFields<'_>,
     values: &ValueColumns,
     rules: &Rules,
     sources: &[Source],
@@ -48,29 +48,19 @@ fn read_values(
     requires few { length sources.now < 2 ^ 32 }
     requires empty { readings.old.items ≡ [] }
     requires low { neg_ℤ T <ℤ tick }
-    ensures { Gives result readings.new.items (values_said rules.now sources.now (fields_of row.now) tick (values_of values.now)) }
+    ensures { Gives result readings.new.items (values_said rules.now sources.now (fields_in fields.now) tick (values_of values.now)) }
 {
     match values {
         ValueColumns::Named { name, value } => {
-            let (name, value) = (field(row, *name), field(row, *value));
+            let (name, value) = (fields.at(*name), fields.at(*value));
             read_named(rules, sources, tick, name, value, readings)
         }
         ValueColumns::OfInputs { places } => {
-            match read_each(row, places, rules, sources, tick, readings) {
+            match read_each(fields, places, rules, sources, tick, readings) {
                 Ok(()) => Ok(None),
                 Err(fault) => Err(fault),
             }
         }
-    }
-}
-
-// A field of a record, counted from 0.
-pub(crate) fn field(row: &ByteRecord, place: usize) -> &[u8]
-    ensures { result.now ≡ get_or (fields_of row.now) place [] }
-{
-    match row.get(place) {
-        Some(field) => field,
-        None => &[],
     }
 }
 
@@ -142,7 +132,7 @@ fn find_source(sources: &[Source], name: &[u8]) -> Option<(u32, u64)>
 
 // The readings of the inputs, whose values are at these places.
 fn read_each(
-    row: &ByteRecord,
+    fields: &LineFields<'_>,
     places: &[usize],
     rules: &Rules,
     sources: &[Source],
@@ -151,10 +141,10 @@ fn read_each(
 ) -> Result<(), ReadLineFault>
     requires few { length sources.now < 2 ^ 32 }
     requires empty { readings.old.items ≡ [] }
-    ensures { Fills result readings.new.items (each_reading rules.now (fields_of row.now) tick 0 sources.now places.now) }
+    ensures { Fills result readings.new.items (each_reading rules.now (fields_in fields.now) tick 0 sources.now places.now) }
 {
     for input in 0..sources.len().min(places.len()) {
-        let text = field(row, places[input]);
+        let text = fields.at(places[input]);
         let source = &sources[input];
         match take_reading(rules, tick, input as u32, source, text, readings) {
             Ok(()) => {}

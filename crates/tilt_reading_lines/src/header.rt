@@ -8,7 +8,7 @@ ghost use Rattle.tilt_reading_lines.specs.Titles.{titles_of};
 
 use crate::columns::{Columns, Titles, ValueColumns};
 use crate::fault::{Column, HeaderFault, ReadHeaderFault};
-use crate::fields::field;
+use crate::line_fields::field;
 use crate::rules::Source;
 use csv::ByteRecord;
 use std::alloc::{AllocError as OutOfMemory, Global};

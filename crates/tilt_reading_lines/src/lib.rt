@@ -20,9 +20,12 @@ mod fault;
 mod fields;
 mod header;
 mod law;
+mod line_fields;
+mod plain;
 mod reader;
 mod record;
 mod rules;
+mod three;
 mod tick;
 mod value;
 

@@ -3,8 +3,10 @@ use crate::columns::{Columns, Titles};
 use crate::fault::{HeaderFault, LineFault, ReadHeaderFault, ReadLineFault};
 use crate::fields::read_said;
 use crate::header::read_columns;
+use crate::line_fields::LineFields;
 use crate::record::read_fields;
 use crate::rules::{InputReading, Rules, Source};
+use crate::three::cut_three;
 use csv::ByteRecord;
 use std::alloc::Global;
 
@@ -96,9 +98,15 @@ impl ReadingReader {
             (line_said (delimiter_of self.old) (layout_of columns.now) rules.now sources.now line.now) }
         ensures delimiter { delimiter_of self.new ≡ delimiter_of self.old }
     {
+        if columns.count == 3
+            && let Some(fields) = cut_three(line, self.delimiter)
+        {
+            return read_said(&fields, columns, rules, sources, readings);
+        }
         if !read_fields(self.alloc, self.delimiter, line, &mut self.row)? {
             return Err(ReadLineFault::BadLine(LineFault::NotOneRecord));
         }
-        read_said(&self.row, columns, rules, sources, readings)
+        let fields = LineFields::Copied(&self.row);
+        read_said(&fields, columns, rules, sources, readings)
     }
 }

@@ -7,11 +7,30 @@ ghost use Rattle.csv.specs.Records.{fields_of};
 ghost use Rattle.csv.specs.declared.parser.State.TheVariants as st;
 ghost use Rattle.tilt_reading_lines.specs.Records.{IsFieldsOf, IsOnly, IsReady, Takes, config_of, next_of};
 
+use crate::plain::{plain_part, split_fields};
 use csv::{ByteRecord, Error, ErrorKind, Reader, ReaderBuilder};
 use std::alloc::{AllocError as OutOfMemory, Global};
 
 // Reads the fields of a line, without the white space around them, and returns whether the line is one record.
 pub(crate) fn read_fields(
+    alloc: Global,
+    delimiter: u8,
+    line: &[u8],
+    fields: &mut ByteRecord,
+) -> Result<bool, OutOfMemory>
+    ensures { IfOk result (λ is_only. IsFieldsOf is_only (fields_of fields.new) delimiter line.now) }
+{
+    match plain_part(line, delimiter) {
+        Some(part) => {
+            split_fields(part, delimiter, fields)?;
+            Ok(true)
+        }
+        None => read_quoted(alloc, delimiter, line, fields),
+    }
+}
+
+// The same of a line that may have quotes.
+fn read_quoted(
     alloc: Global,
     delimiter: u8,
     line: &[u8],
