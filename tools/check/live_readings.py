@@ -2,8 +2,9 @@
 """Runs random feeds of readings through random queries on the program `tilt-live`, from a fixed seed, and compares standard output,
 standard error and the status with what the definitions say: `tools/check/live_readings.py [--program PATH] [--tilt PATH] [QUERIES]`.
 
-The texts have columns by name or one for each input, times as dates or as numbers, each option, and bad lines of each kind. They go to the
-program in random pieces, as in tools/check/live.py: what the lines so far make final has to come before more is sent.
+The texts have columns by name or one for each input, times as dates, as local times of a zone or as numbers, each option, and bad lines of
+each kind. Of the dates without an offset most lie around a change of clocks. The texts go to the program in random pieces, as in
+tools/check/live.py: what the lines so far make final has to come before more is sent.
 
 What is expected is worked out from the bytes alone, by tools/check/readings.py and tools/check/feeds.py. Each feed is also written as one
 of rows, and for that the program has to print the same. Some texts without bad lines become series, by `tilt-data series`. What `tilt run`
@@ -33,7 +34,7 @@ from check.live import BYTE_ORDER_MARK, MOST_FAILED, BadLine, Expected, Options,
 from check.live_sessions import Came, random_cuts, run, session_expected
 from check.random_feeds import random_query
 from check.reading_texts import random_form, random_lines, random_text, words_of
-from check.readings import FARTHEST, NO_END_OF_LINE, Form, Readings, fields_of, moment_of, updates_between
+from check.readings import FARTHEST, NO_END_OF_LINE, ZONES, Form, Readings, fields_of, moment_of, updates_between
 from check.watermarks import Watermarking
 from shared.paths import BUILT, SYSTEM_PYTHON, TOOLS
 from shared.program import built_program
@@ -58,6 +59,8 @@ BAD_ARGUMENTS = [
     "--time time",
     "--time",
     "--time time --tick",
+    "--zone UTC",
+    "--zone UTC --fold first",
 ]
 MORE_ARGUMENTS = [
     "--decimals 20",
@@ -70,6 +73,15 @@ MORE_ARGUMENTS = [
     "--max-age x=5s --event",
     "--events x --event",
     "--events x --max-age x=5s",
+    "--zone UTC --unit s",
+    "--unit s --fold first",
+    "--fold second",
+    "--zone",
+    "--zone UTC --fold",
+    "--zone UTC --fold third",
+    "--zone UTC --fold First",
+    "--zone UTC --zone UTC",
+    "--zone UTC --origin 2026-03-01T00:00:00",
     "--ties",
     "--folder f --position --every 2",
 ]
@@ -90,6 +102,7 @@ BAD_VALUES = {
     "scale": "0 -1 1.5 x x= =1 x=0 x=1,x=1 x=1, 1000000000000000001 auto",
     "closed": "Left both",
     "ties": "all",
+    "zone": "/ /UTC ../UTC Europe/./Zurich Europe/Z\u00fcrich UTC! Europe\\Zurich zone.tab",
     "decimal": "; ,",
     "delimiter": ';; " \u00e9 . \\n',
     "origin": "2026-03-01 2026-03-01T00:00:00 2026-02-30T00:00:00Z 0 x",
@@ -272,8 +285,9 @@ class Place:
     def check_series(self, draw: random.Random, base: int, tally: Tally) -> None:
         """A feed whose readings become series, by the same options, of which a query has all rows at once."""
         names = self.query.inputs
+        # A series has no fold.
         form = dataclasses.replace(
-            random_form(draw, names, base), skip_empty=True, delimiter=draw.choice(",;\t"), decimal=".", events=(), ages={}
+            random_form(draw, names, base), fold=None, skip_empty=True, delimiter=draw.choice(",;\t"), decimal=".", events=(), ages={}
         )
         lines, readings = lines_in_order(form, names, random_lines(draw, form, names, base, 0.0))
         if not names or not all(known.readings for known in readings.inputs.values()):
@@ -354,17 +368,37 @@ def check_arguments(live: str, tally: Tally) -> None:
 
 
 def check_other_states(live: str, tally: Tally) -> None:
-    """States that were saved with other options."""
+    """States that were saved with other options, or with those that mean the same."""
+    zone = f"{TIMES} --zone Europe/Zurich"
     pairs = [(TIMES, f"{TIMES} --event"), (TIMES, f"{TIMES} --scale 10"), (TIMES, ""), ("", TIMES), (TIMES, TIMES.replace("1s", "2s"))]
-    for saved, resumed in pairs + [(f"{TIMES} --scale 10", f"{TIMES} --scale x=10"), ("--begun", "")]:
+    pairs += [(TIMES, zone), (zone, TIMES), (zone, f"{TIMES} --zone Europe/Rome"), (zone, f"{zone} --fold first")]
+    pairs += [(f"{zone} --fold first", f"{zone} --fold second"), (f"{zone} --fold second", zone)]
+    alike = [(f"{TIMES} --scale 10", f"{TIMES} --scale x=10"), ("--begun", ""), (zone, zone)]
+    for saved, resumed in pairs + alike:
         with tempfile.TemporaryDirectory() as folder:
             with open(os.path.join(folder, "query.tilt"), "w", encoding="ascii") as file:
                 file.write("input x;\nemit x over (0, 5];\n")
             first = run([live, "query.tilt", *saved.split(), "--save", "state"], folder, b"")
             came = run([live, "query.tilt", *resumed.split(), "--resume", "state"], folder, b"")
-        same = "x=10" in resumed or not (saved + resumed).replace("--begun", "")
-        wanted = Came(0, b"", b"") if same else Came(1, b"", b"tilt: 59 state of other options\n")
+        wanted = Came(0, b"", b"") if (saved, resumed) in alike else Came(1, b"", b"tilt: 59 state of other options\n")
         tally.expect(first.status == 0 and came == wanted, f"{saved} and {resumed}: expected {wanted}came {came}")
+
+
+def check_zone_files(live: str, tally: Tally) -> None:
+    """Zones whose file isn't there, can't be read, or is no table, whatever the feed is. A folder and a list are among the tables."""
+    for name in [zone for zone in ("Nowhere", "Europe", "leapseconds", "Europe/Zurich/Rome") if zone != "leapseconds" or has_file(zone)]:
+        wanted = Came(1, b"", b"tilt: 67 no zone %s\n" % name.encode())
+        for words in (TIMES, f"{TIMES} --save state", f"{TIMES} --folder folder", f"{TIMES} --fold first"):
+            with tempfile.TemporaryDirectory() as folder:
+                with open(os.path.join(folder, "query.tilt"), "w", encoding="ascii") as file:
+                    file.write("input x;\nemit x over (0, 5];\n")
+                came = run([live, "query.tilt", *words.split(), "--zone", name], folder, b"time,x\n2026-03-01T00:00:00Z,1\n")
+                names = os.listdir(folder)
+            tally.expect(came == wanted and names == ["query.tilt"], f"{words} --zone {name}: expected {wanted}came {came}and {names}")
+
+
+def has_file(zone: str) -> bool:
+    return os.path.isfile(os.path.join(ZONES, zone))
 
 
 def main(arguments: Sequence[str]) -> int:
@@ -382,6 +416,7 @@ def main(arguments: Sequence[str]) -> int:
             return tally.end()
     check_arguments(live, tally)
     check_other_states(live, tally)
+    check_zone_files(live, tally)
     for number in range(chosen.queries):
         if tally.failed < MOST_FAILED:
             check_query(draw, live, tilt, number, tally)

@@ -3,6 +3,7 @@ from __future__ import annotations
 
 import dataclasses
 import datetime
+import functools
 import itertools
 import random
 from fractions import Fraction
@@ -11,9 +12,13 @@ from typing import Iterator, Sequence
 from check.feeds import T
 from check.live import BYTE_ORDER_MARK, LONGEST_LINE
 from check.random_feeds import random_value
-from check.readings import EPOCH, NUMBERS, SECOND, UNITS, Form
+from check.readings import EPOCH, NUMBERS, SECOND, UNITS, Form, zone_named
+from check.zones import offset_at, transitions_of
 
 FIRST_YEAR, LAST_YEAR = -62_135_596_800, 253_402_300_799
+# Zones of the system, of which some change their clocks by half an hour or a day, at midnight, or not at all.
+ZONES = "Europe/Zurich Europe/Dublin America/New_York America/St_Johns America/Argentina/Buenos_Aires America/Port-au-Prince Asia/Beirut \
+    Asia/Kathmandu Africa/Casablanca Australia/Lord_Howe Pacific/Apia Etc/GMT+5 UTC".split()
 
 
 # Forms and options
@@ -31,7 +36,7 @@ def random_form(draw: random.Random, names: Sequence[str], base: int) -> Form:
     delimiter = draw.choice([*[","] * 6, ";", ";", "\t", "|", " ", "-", "0", "x"])
     same, some = draw.choice([1, 1, 10, 100, 1000, 60, 10**18]), [name for name in names if draw.random() < 0.7]
     scales = {name: draw.choice([1, 10, 100, 7]) for name in some} if draw.random() < 0.5 else dict.fromkeys(names, same)
-    return Form(
+    form = Form(
         time=draw.choice(["time", "time", "Time (UTC)", "a,b;c", "t"]),
         name=draw.choice(["sensor", "n"]) if named else None,
         value=draw.choice(["value", "value of it"]) if named else None,
@@ -50,6 +55,24 @@ def random_form(draw: random.Random, names: Sequence[str], base: int) -> Form:
         delimiter=delimiter,
         decimal="." if delimiter == "," or draw.random() < 0.6 else ",",
     )
+    return in_zone(draw, form, far) if unit is None and draw.random() < 0.5 else form
+
+
+@functools.cache
+def changes_of(zone: str) -> list[int]:
+    """The seconds from 1970 to each change of the clocks of a zone, up to 2037."""
+    return [*transitions_of(zone_named(zone))]
+
+
+def in_zone(draw: random.Random, form: Form, far: bool) -> Form:
+    """The same form with local times of a zone. Mostly the first ticks lie around a change of its clocks, unless ticks are far away."""
+    form = dataclasses.replace(form, zone=draw.choice(ZONES), fold=draw.choice([None, None, "first", "second"]))
+    changes = changes_of(form.zone or "")
+    if far or not changes or draw.random() < 0.2:
+        return form
+    tick = draw.choice([60, 300, 600, 900, 1800, 3600]) * SECOND
+    origin = draw.choice(changes) * SECOND - draw.randint(-5, 10) * tick + draw.choice([0, 0, 0, 250_000_000])
+    return dataclasses.replace(form, tick=tick, origin=origin)
 
 
 def random_events(draw: random.Random, names: Sequence[str]) -> tuple[bool, list[str]]:
@@ -75,6 +98,7 @@ def duration_text(draw: random.Random, length: int) -> str:
 def words_of(draw: random.Random, form: Form, names: Sequence[str]) -> list[list[str]]:
     """The options that say a form, each with its value. What is the default is left out at times."""
     given = {"time": form.time, "name": form.name, "value": form.value, "unit": form.unit, "tick": duration_text(draw, form.tick)}
+    given |= {"zone": form.zone, "fold": form.fold}
     given["null"] = ",".join(form.nulls) or None
     given["max-age"] = ",".join(f"{name}={duration_text(draw, age * form.tick)}" for name, age in form.ages.items()) or None
     if form.max_age is not None:
@@ -104,12 +128,25 @@ def date_text(draw: random.Random, moment: int) -> str:
     offset = draw.choice([0, 0, 0, 60, 330, -480, 14 * 60 + 45, -(23 * 60 + 59)])
     if not FIRST_YEAR + 86400 <= seconds <= LAST_YEAR - 86400:
         offset = 0
-    local = EPOCH + datetime.timedelta(seconds=seconds + offset * 60)
-    digits = f"{nanoseconds:09}".rstrip("0") + "0" * draw.choice([0, 0, 1, 5])
-    fraction = draw.choice(".....,") + digits if digits else ""
     hours, minutes = divmod(abs(offset), 60)
     zone = f"{'-' if offset < 0 else '+'}{hours:02}:{minutes:02}" if offset else draw.choice(["Z", "Z", "z", "+00:00", "-00:00"])
-    return f"{local:%Y-%m-%d}".zfill(10) + draw.choice("TTTT ") + f"{local:%H:%M:%S}{fraction}{zone}"
+    return clock_text(draw, seconds + offset * 60, nanoseconds) + zone
+
+
+def local_text(draw: random.Random, zone: str, moment: int) -> str:
+    """What clocks of a zone show at a moment, as a date without an offset. Some have the offset of two hours before or after it: such a
+    local time may be one that they skip or show twice."""
+    seconds, nanoseconds = divmod(moment, SECOND)
+    offset = offset_at(zone_named(zone), seconds + draw.choice([*[0] * 10, -7200, 7200]))
+    return clock_text(draw, seconds + offset, nanoseconds)
+
+
+def clock_text(draw: random.Random, local: int, nanoseconds: int) -> str:
+    """The day and the time that clocks show so many seconds after they showed 1970-01-01T00:00:00."""
+    shown = EPOCH + datetime.timedelta(seconds=local)
+    digits = f"{nanoseconds:09}".rstrip("0") + "0" * draw.choice([0, 0, 1, 5])
+    fraction = draw.choice(".....,") + digits if digits else ""
+    return f"{shown:%Y-%m-%d}".zfill(10) + draw.choice("TTTT ") + f"{shown:%H:%M:%S}{fraction}"
 
 
 def decimal_text(draw: random.Random, number: Fraction, mark: str) -> str:
@@ -131,7 +168,9 @@ def moment_text(draw: random.Random, form: Form, tick: int) -> str:
     moment = form.origin + (tick - 1) * form.tick + inside
     if form.unit is not None:
         return decimal_text(draw, Fraction(moment, UNITS[form.unit]), ".")
-    return date_text(draw, moment) if FIRST_YEAR <= moment // SECOND <= LAST_YEAR else "10000-01-01T00:00:00Z"
+    if not FIRST_YEAR <= moment // SECOND <= LAST_YEAR:
+        return "10000-01-01T00:00:00Z"
+    return local_text(draw, form.zone, moment) if form.zone is not None and draw.random() < 0.8 else date_text(draw, moment)
 
 
 def value_text(draw: random.Random, form: Form, name: str) -> str:
@@ -205,7 +244,11 @@ def random_ticks(draw: random.Random, base: int) -> Iterator[int]:
 NO_DATES = b"x 2026-03-01 2026-03-01T00:00:00 2026-03-01T00:00Z 2026-03-01t00:00:00Z 2026-03-01T00:00:00+0100 2026-03-01T00:00:00.Z 1.5"
 NO_MOMENTS = b"2026-02-29T00:00:00Z 2026-03-01T24:00:00Z 2026-03-01T00:00:60Z 2026-03-01T00:00:00+24:00 2026-03-01T00:00:00+00:60"
 FAR_DATES = b"0000-01-01T00:00:00Z 0001-01-01T00:00:00+00:01 9999-12-31T23:59:59-00:01 9999-12-31T23:59:59.9Z"
-BAD_DATES = [b"", b"2026-03-01T00:00:00.0000000001Z", *NO_DATES.split(), *NO_MOMENTS.split(), *FAR_DATES.split()]
+# Without an offset, also at both edges of what clocks in Zurich skip and show twice.
+NO_OFFSETS = b"2026-02-29T00:00:00 2026-03-01T00:00:60 0001-01-01T00:00:00 9999-12-31T23:59:59.9 2026-03-01T00:00:00.0000000001 \
+    2026-03-01T00:00:00. 2026-03-29T01:59:59.9 2026-03-29T02:00:00 2026-03-29T02:59:59.9 2026-03-29T03:00:00 2026-10-25T01:59:59.9 \
+    2026-10-25T02:00:00 2026-10-25T02:59:59.9 2026-10-25T03:00:00"
+BAD_DATES = [b"", b"2026-03-01T00:00:00.0000000001Z", *NO_DATES.split(), *NO_MOMENTS.split(), *FAR_DATES.split(), *NO_OFFSETS.split()]
 BAD_NUMBERS = [b"", b"9" * 38, b"-1" + b"0" * 36, b"1" + b"0" * 27, *b"- . 1e3 1_0 1,5 0.0000000001 1.5 2026-03-01T00:00:00Z".split()]
 NO_VALUES = b"x 1e3 1_000 --1 + . , 1.2.3 1/2 0x1 1.5 1,5 0.001 0,05 0.00000000000000000001 9223372036854775808 -9223372036854775809"
 BAD_VALUES = [b"1 2", b"\xff", b"\xd9\xa3", b"9" * 40, *NO_VALUES.split()]

@@ -7,13 +7,17 @@ from __future__ import annotations
 
 import dataclasses
 import datetime
+import functools
+import os
 import re
+import zoneinfo
 from fractions import Fraction
 from itertools import groupby
 from typing import Mapping, Sequence
 
 from check.feeds import Feed, InputFeed, KnownUpTo, T, Update, ValueFrom, WholeRow
 from check.live import BYTE_ORDER_MARK, LONGEST_LINE, BadLine, records_of
+from check.zones import moments_by_fold, moments_of
 
 SECOND = 10**9
 # The nanoseconds of the units of durations; `NUMBERS` are those of times.
@@ -24,11 +28,14 @@ FARTHEST = 10**36
 BLANKS = b" \t\n\r\f"
 
 DATE = re.compile(
-    rb"([0-9]{4})-([0-9]{2})-([0-9]{2})[T ]([0-9]{2}):([0-9]{2}):([0-9]{2})(?:[.,]([0-9]+))?(?:[Zz]|([-+])([0-9]{2}):([0-9]{2}))"
+    rb"([0-9]{4})-([0-9]{2})-([0-9]{2})[T ]([0-9]{2}):([0-9]{2}):([0-9]{2})(?:[.,]([0-9]+))?"
+    rb"(?P<offset>[Zz]|(?P<sign>[-+])(?P<hours>[0-9]{2}):(?P<minutes>[0-9]{2}))?"
 )
 EPOCH = datetime.datetime(1970, 1, 1)
 # The seconds from which on dates in UTC are of the year 1, and of the year 10000.
 YEAR_1, YEAR_10000 = -62_135_596_800, 253_402_300_800
+# The folder of the tables of zones, and the moment from which on no table says what clocks show.
+ZONES, END_OF_TABLES = os.path.join(os.sep, "usr", "share", "zoneinfo"), 253_402_207_201
 
 # What a bad line is reported by.
 BAD_HEADER = "90 line {}: the header isn't one record"
@@ -52,8 +59,9 @@ Reading = tuple[int, "int | None"]
 @dataclasses.dataclass(frozen=True)
 class Form:
     """How readings are written, and what they mean: the titles of the columns, of which two are missing if each input has a column of its
-    own; the clock in nanoseconds; the scales of inputs, of which the others have 1. The readings of all inputs are events, or those of
-    some; the others hold for a maximum age in ticks, one for all of them or one for some."""
+    own; the clock in nanoseconds; the zone of times without an offset, and the fold of those that its clocks skip or show twice; the scales
+    of inputs, of which the others have 1. The readings of all inputs are events, or those of some; the others hold for a maximum age in
+    ticks, one for all of them or one for some."""
 
     time: str
     name: str | None = None
@@ -61,6 +69,8 @@ class Form:
     tick: int = SECOND
     origin: int = 0
     unit: str | None = None
+    zone: str | None = None
+    fold: str | None = None
     scales: Mapping[str, int] = dataclasses.field(default_factory=dict)
     event: bool = False
     events: Sequence[str] = ()
@@ -99,25 +109,45 @@ def decimal_of(text: bytes, mark: str) -> Fraction | None:
     return Fraction(-int(digits) if found[1] == b"-" else int(digits), 10**decimals)
 
 
-def moment_of_date(text: bytes) -> int:
-    """The nanoseconds from 1970 to a date."""
+def moment_of_date(form: Form, text: bytes) -> int:
+    """The nanoseconds from 1970 to a date. One without an offset is a local time of the zone."""
     found = DATE.fullmatch(text)
-    if found is None:
+    if found is None or found["offset"] is None and form.zone is None:
         raise BadLine(BAD_TIME.format("no date with an offset"))
     year, month, day, hour, minute, second = map(int, found.groups()[:6])
     try:
         local = datetime.datetime(year, month, day, hour, minute, second)
-        ahead = datetime.time(int(found[9] or 0), int(found[10] or 0))
+        ahead = datetime.time(int(found["hours"] or 0), int(found["minutes"] or 0))
     except ValueError as error:
         raise BadLine(BAD_TIME.format("no such day or time")) from error
     nanoseconds = Fraction(int(found[7] or 0), 10 ** len(found[7] or b"")) * SECOND
     if nanoseconds.denominator != 1:
         raise BadLine(BAD_TIME.format("finer than a nanosecond"))
-    offset = (ahead.hour * 3600 + ahead.minute * 60) * (-1 if found[8] == b"-" else 1)
-    seconds = (local - EPOCH) // datetime.timedelta(seconds=1) - offset
+    offset = (ahead.hour * 3600 + ahead.minute * 60) * (-1 if found["sign"] == b"-" else 1)
+    shown = (local - EPOCH) // datetime.timedelta(seconds=1)
+    seconds = moment_of_local(form, shown) if found["offset"] is None else shown - offset
     if not YEAR_1 <= seconds < YEAR_10000:
         raise BadLine(BAD_TIME.format("not in the years 1 to 9999"))
     return seconds * SECOND + int(nanoseconds)
+
+
+@functools.cache
+def zone_named(name: str) -> zoneinfo.ZoneInfo:
+    with open(os.path.join(ZONES, name), "rb") as file:
+        return zoneinfo.ZoneInfo.from_file(file, name)
+
+
+def moment_of_local(form: Form, local: int) -> int:
+    """The seconds from 1970 to a local time of the zone, by what Python's `zoneinfo` says of both folds."""
+    zone = zone_named(form.zone or "")
+    first, second = moments_by_fold(zone, local)
+    moments = [first] if first == second else moments_of(zone, local)
+    if len(moments) != 1 and form.fold is None:
+        raise BadLine(BAD_TIME.format("the clocks of the zone " + ("show this local time twice" if moments else "skip this local time")))
+    moment = moments[0] if len(moments) == 1 else second if form.fold == "second" else first
+    if moment >= END_OF_TABLES:
+        raise BadLine(BAD_TIME.format("the table of the zone ends before this local time"))
+    return moment
 
 
 def moment_of_number(text: bytes, unit: str) -> int:
@@ -134,7 +164,7 @@ def moment_of_number(text: bytes, unit: str) -> int:
 
 
 def moment_of(form: Form, text: bytes) -> int:
-    return moment_of_date(text) if form.unit is None else moment_of_number(text, form.unit)
+    return moment_of_date(form, text) if form.unit is None else moment_of_number(text, form.unit)
 
 
 def tick_of(form: Form, text: bytes) -> int:

@@ -58,8 +58,9 @@ def local_at(zone: zoneinfo.ZoneInfo, moment: int) -> int:
 
 def moments_by_fold(zone: zoneinfo.ZoneInfo, local: int) -> list[int]:
     """The moments of a local time with the first fold and with the second one."""
-    naive = (EPOCH + datetime.timedelta(seconds=local)).replace(tzinfo=None)
-    return [(naive.replace(tzinfo=zone, fold=fold).astimezone(UTC) - EPOCH) // SECOND for fold in (0, 1)]
+    shown = (EPOCH + datetime.timedelta(seconds=local)).replace(tzinfo=zone)
+    offsets = [shown.replace(fold=fold).utcoffset() for fold in (0, 1)]
+    return [local - offset // SECOND for offset in offsets if offset is not None]
 
 
 def moments_of(zone: zoneinfo.ZoneInfo, local: int) -> list[int]:
