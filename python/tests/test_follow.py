@@ -2,6 +2,7 @@
 from __future__ import annotations
 
 import contextlib
+import dataclasses
 import json
 import os
 import pathlib
@@ -18,7 +19,9 @@ import time
 import pytest
 from conftest import LIVE, PROGRAM, PYTHON, forked, run_program
 from tilt_data import handed
-from tilt_data.clock import Clock
+from tilt_data.clock import Clock, Moments
+from tilt_data.convention import TextConvention
+from tilt_data.follow import clock_of
 
 QUERY = (
     "input temp; input limit; let a = avg(temp[t-20:t]) every 10; let above = ifnull(a > limit, false);\n"
@@ -181,6 +184,37 @@ def test_inputs_have_scales_of_their_own(tilt, live, tmp_path):
     times = [f"2026-03-01T00:00:{second:02}Z" for second in (2, 10, 12, 20)]
     wanted = "start,end,value\n" + "".join(f"{a},{b},{v}\n" for a, b, v in zip(times, times[1:], ("1.75", "2.75", "3.00")))
     assert done(follow(tmp_path, "--state", "t", *words), given) == (0, wanted, "")
+
+
+LOCAL = ["--tick", "1min", "--zone", "Europe/Zurich", "--scale", "1", "--times", "--skip-bad"]
+# At 01:00 in UTC clocks go from 02:00 to 03:00 in March, and back from 03:00 to 02:00 in October. So 02:30 has no moment, or two.
+CLOCKS = [
+    ([], ["2026-03-29T00:00", "", "2026-03-29T03:00"], "skip this local time"),
+    (["--fold", "first"], ["2026-03-29T00:00", "2026-03-29T01:30", "2026-03-29T03:00"], ""),
+    (["--fold", "second"], ["2026-03-29T00:00", "2026-03-29T00:30", "2026-03-29T03:00"], ""),
+    ([], ["2026-10-24T23:00", "", "2026-10-25T04:00"], "show this local time twice"),
+    (["--fold", "first"], ["2026-10-24T23:00", "2026-10-25T00:30", "2026-10-25T04:00"], ""),
+    (["--fold", "second"], ["2026-10-24T23:00", "2026-10-25T01:30", "2026-10-25T04:00"], ""),
+]
+
+
+@pytest.mark.parametrize("fold, starts, what", CLOCKS)
+def test_local_times_over_a_change_of_clocks(tilt, live, tmp_path, fold, starts, what):
+    simple(tmp_path)
+    day = starts[2][:10]
+    given = f"x,{day}T01:00:00,1\nx,{day}T02:30:00,2\nx,{day}T05:00:00,3\nx,{day}T09:00:00+02:00,4\n"
+    rows = [(start, number) for number, start in enumerate([*starts, f"{day}T07:00"], 1) if start]
+    wanted = [f"{start}:00Z,{end}:00Z,{number}\n" for (start, number), (end, _) in zip(rows, rows[1:])]
+    told = what and f"tilt: 95 line 3: bad time: the clocks of the zone {what}\n"
+    assert followed(tmp_path, given, *LOCAL, *fold) == (0, "".join(["start,end,value\n", *wanted]), told)
+
+
+def test_a_clock_starts_in_1970_in_each_zone():
+    convention = TextConvention(tick="1h", zone="Europe/Zurich")
+    assert clock_of(convention) == Clock(3600 * 10**9, 0, "left")
+    # An origin without an offset is a local time.
+    given = dataclasses.replace(convention, origin="2026-03-01")
+    assert clock_of(given).origin == Moments().iso("2026-02-28T23:00:00Z")
 
 
 def test_inputs_have_ages_of_their_own(tilt, live, tmp_path):
@@ -782,10 +816,7 @@ def test_bad_lines(tilt, live, tmp_path, line, what):
 USAGE = [
     (["--rows", "5"], "--rows isn't taken any more: rows are printed as soon as they are final, so leave it out"),
     (["--again"], "--again isn't taken any more: name the file by --log, which reads on where it was"),
-    (
-        ["--zone=Europe/Berlin"],
-        "--zone=Europe/Berlin isn't taken any more: write times with their offset, such as 2026-03-01T06:00:00+01:00",
-    ),
+    (["--fold", "third"], "argument --fold: invalid choice: 'third'"),
     (["--until", "2026-03-02"], "--until isn't taken any more: a record with a time alone, such as ,2026-03-01T07:00:00Z, says up to when"),
     (["x=x.csv"], "x=x.csv isn't taken any more: put the lines of this input in front of the others"),
     (["--every", "60s"], "argument --every: invalid number value: '60s'"),
@@ -805,6 +836,11 @@ FAULTS = [
     ([*READING, "--end"], "--end: it is for rows; readings can end with a time alone, such as ,2026-03-01T07:00:00Z,"),
     ([*READING, "--idle", "5"], "--idle: it is for rows; "),
     (["--scale", "10"], "--scale: for readings give also --tick, or --like a series"),
+    ([*READING, "--zone", "UTC", "--unit", "s"], "--zone: it is for dates, and with --unit times are numbers"),
+    ([*READING, "--fold", "first"], "--fold: it is for local times, so give also --zone"),
+    ([*READING, "--zone", "Nowhere"], "tilt: 67 no zone Nowhere"),
+    (["--zone", "UTC"], "--zone: for readings give also --tick, or --like a series"),
+    (["--fold", "first"], "--fold: for readings give also --tick, or --like a series"),
     (["--clock", "5s"], "--clock: for readings give also --tick, or --like a series"),
     (["--times"], "--times: for readings give also --tick, or --like a series"),
     (["--rotate"], "--rotate: for readings give also --tick, or --like a series"),
@@ -840,7 +876,7 @@ CHANGES = [
     ["--closed", "right"],
     ["--max-age", "60s"],
 ]
-CHANGES += [["--ties", "first"], ["--null", "-9"], ["--skip-empty"], ["--scale", "x=1000"], ["--event"]]
+CHANGES += [["--zone", "Europe/Zurich"], ["--ties", "first"], ["--null", "-9"], ["--skip-empty"], ["--scale", "x=1000"], ["--event"]]
 
 
 def test_other_options_are_rejected_and_leave_the_folder_as_it_is(tilt, live, tmp_path):

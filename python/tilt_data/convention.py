@@ -130,8 +130,11 @@ class TextConvention(Convention):
         auto = "" if lasting else "; auto for the smallest power of ten that makes them whole"
         add = parser.add_argument
         add("--unit", choices=["s", "ms", "us", "ns"], help="times are numbers since 1970 in this unit, and not ISO 8601")
-        if not lasting:
-            add("--zone", help="the zone of times without an offset, such as Europe/Zurich (UTC)")
+        utc = "; without it they are bad" if lasting else " (UTC)"
+        add("--zone", help=f"the zone of times without an offset, such as Europe/Zurich{utc}")
+        if lasting:
+            skipped = "which moment a local time means that clocks skip or show twice; without it that is a bad line"
+            add("--fold", choices=["first", "second"], help=skipped)
         add("--tick", help="the length of a tick, such as 1s, 1ms or 1min")
         midnight = "1970-01-01T00:00:00Z" if lasting else "the midnight before the first reading"
         add("--origin", help=f"the moment at which the first tick starts ({midnight})")

@@ -9,6 +9,7 @@ from __future__ import annotations
 
 import argparse
 import contextlib
+import dataclasses
 import fcntl
 import functools
 import json
@@ -20,7 +21,7 @@ import time
 from typing import IO, Any, Iterator, Mapping, NamedTuple
 
 from .arrivals import LONGEST
-from .clock import UNITS, duration_of, moment_text
+from .clock import UNITS, Clock, duration_of, moment_text
 from .convention import TextConvention
 from .errors import Refused, note, printable
 from .files import failing_at, locked, replace, standard_input
@@ -47,12 +48,11 @@ NUMBERS = {
     "ahead": "rows: a line that starts more than N ticks ahead is bad",
 }
 OF_ROWS = ("lateness", "idle", "ahead", "end")
-OF_READINGS = ("unit", "origin", "scale", "hold", "max_age", "event", "closed", "null", "skip_empty", "clock", "times", "rotate")
+OF_READINGS = "unit zone fold origin scale hold max_age event closed null skip_empty clock times rotate".split()
 # What earlier versions took, and what to do now.
 GONE = {
     "--rows": "rows are printed as soon as they are final, so leave it out",
     "--again": "name the file by --log, which reads on where it was",
-    "--zone": "write times with their offset, such as 2026-03-01T06:00:00+01:00",
     "--until": "a record with a time alone, such as ,2026-03-01T07:00:00Z, says up to when all inputs are known",
 }
 BINDING = re.compile(r"[A-Za-z_]\w*=.+", re.ASCII | re.DOTALL)
@@ -80,7 +80,7 @@ def add(commands: Any) -> None:
     for name, text in NUMBERS.items():
         option(f"--{name}", metavar="N", type=number, help=text)
     TextConvention.add_to(parser, lasting=True)
-    parser.set_defaults(main=main, zone=None, until=None)
+    parser.set_defaults(main=main, until=None)
     parser.parse_known_args = functools.partial(without_gone, parser, parser.parse_known_args)
 
 
@@ -109,6 +109,10 @@ def options_of(words: argparse.Namespace) -> list[str]:
             if tick is not None:
                 cure = "it is for rows; readings can end with a time alone, such as ,2026-03-01T07:00:00Z,"
             raise Refused(f"--{name.replace('_', '-')}: {cure}")
+    if words.zone is not None and words.unit is not None:
+        raise Refused("--zone: it is for dates, and with --unit times are numbers")
+    if words.fold is not None and words.zone is None:
+        raise Refused("--fold: it is for local times, so give also --zone")
     if words.whole and words.bounds is not None:
         raise Refused("--bounds: it is for queries in units, so leave out --whole")
     given: dict[str, Any] = {name: getattr(words, name) for name in (*NUMBERS, "begun", "times") if name != "every"} | {
@@ -117,11 +121,18 @@ def options_of(words: argparse.Namespace) -> list[str]:
         "bounds": words.bounds,
     }
     if tick is not None:
-        given |= dict(time="time", name="name", value="value", tick=f"{tick}ns", closed=closed, unit=words.unit, event=words.event)
+        given |= dict(time="time", name="name", value="value", tick=f"{tick}ns", closed=closed, event=words.event)
+        given |= {"unit": words.unit, "zone": words.zone, "fold": words.fold}
         given |= {"max-age": ages_of(words.query, convention, tick), "origin": origin and moment_text(origin, 9), "ties": words.ties}
         given |= {"scale": scales_of(words.query, convention), "null": ",".join(sorted(convention.null)), "skip-empty": words.skip_empty}
     spelled = [[f"--{name}", *([] if value is True else [str(value)])] for name, value in given.items() if value not in (None, False, "")]
     return [word for some in spelled for word in some]
+
+
+def clock_of(convention: TextConvention) -> Clock:
+    """The clock of `tilt-live`. If no origin is given it starts in 1970, and not at a midnight of the zone."""
+    _, origin, _ = convention.given
+    return (convention if origin is not None else dataclasses.replace(convention, zone=None)).clock(0)
 
 
 def names_with(given: object, query: str, convention: TextConvention) -> list[str]:
@@ -142,7 +153,7 @@ def of_names(values: Mapping[str, str]) -> str:
 def ages_of(query: str, convention: TextConvention, tick: int) -> str:
     """How long a reading holds at most: of all inputs, or of each one that has an age."""
     names = names_with(convention.max_age, query, convention)
-    ages = {name: convention.rule(name, convention.clock(0)).max_age for name in names}
+    ages = {name: convention.rule(name, clock_of(convention)).max_age for name in names}
     return of_names({name: f"{age * tick}ns" for name, age in ages.items() if age is not None})
 
 
@@ -414,7 +425,7 @@ class Live:
 def receivers_of(words: argparse.Namespace, output: Output, live: Live) -> list[Receiver]:
     """The receivers. The days come first, since standard output may have no reader, and a command may fail."""
     convention, receivers = TextConvention.of(words), list[Receiver]()
-    clock = None if convention.given[0] is None else convention.clock(0)
+    clock = None if convention.given[0] is None else clock_of(convention)
     if words.rotate and clock is not None:
         receivers.append(Rotated(output, clock))
     receivers.append(Shown(output, words.quiet, words.exec))
