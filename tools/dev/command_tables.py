@@ -32,6 +32,8 @@ NAMED = {
     "--tick": "DURATION",
     "--origin": "DATE",
     "--unit": "UNIT",
+    "--zone": "ZONE",
+    "--fold": "FOLD",
     "--scale": "SCALES",
     "--bounds": "BOUNDS",
     "--max-age": "AGES",
