@@ -5,12 +5,13 @@ import argparse
 import dataclasses
 import os
 import re
-from typing import Iterable, Iterator
+from typing import Callable, Iterable, Iterator, TypeVar
 
 from .clock import TIMES, WHOLE, Clock
 from .errors import Refused
 from .files import Notes, Row, Values, notes_of, rows_in, spooled
 
+T = TypeVar("T")
 WORD = re.compile(r"(\+?)(?:(band|limit|dots):)?([^=]+)=(.+)")
 # What no XML file can have, and what no font shows; a line end is allowed.
 UNPRINTABLE = re.compile("[\x00-\x09\x0b-\x1f\x7f-\x9f\ud800-\udfff\ufffe\uffff]")
@@ -152,11 +153,6 @@ def numbers_of(drawn: Iterable[Drawn]) -> dict[str, int]:
     return {name: number for number, name in enumerate(dict.fromkeys(one.name for one in drawn if one.form in ("step", "dots")))}
 
 
-def widened(extent: tuple[int, int] | None, start: int, end: int) -> tuple[int, int]:
-    """An extent that has a row besides."""
-    return (start, end) if extent is None else (min(extent[0], start), max(extent[1], end))
-
-
 def tick_of(text: str, clock: Clock | None, zone: str | None) -> int:
     is_tick = WHOLE.fullmatch(text) is not None
     if clock is None and not is_tick:
@@ -214,13 +210,16 @@ def bands_of(rows: Iterable[tuple[int, int, int]], near: float) -> Iterator[tupl
 
 def joined(stretches: Iterable[tuple[int, int]], near: float) -> Iterator[tuple[int, int]]:
     """Stretches in order, of which those that lie nearer than so many ticks are one."""
-    held: tuple[int, int] | None = None
-    for start, end in stretches:
-        if held is not None and start - held[1] <= near:
-            held = held[0], end
-            continue
-        if held is not None:
+    return chained(stretches, lambda one, other: (one[0], other[1]) if other[0] - one[1] <= near else None)
+
+
+def chained(items: Iterable[T], join: Callable[[T, T], T | None]) -> Iterator[T]:
+    """Items in order, of which one and the next one become one as long as `join` has an item for both."""
+    held: T | None = None
+    for item in items:
+        both = None if held is None else join(held, item)
+        if held is not None and both is None:
             yield held
-        held = start, end
+        held = item if both is None else both
     if held is not None:
         yield held

@@ -620,6 +620,15 @@ class Extremes:
         return self.smallest, self.largest
 
 
+def extent_of(stretches: Iterable[tuple[int, int] | None]) -> tuple[int, int] | None:
+    """From the first start to the last end of some stretches; None if there are none."""
+    extent: tuple[int, int] | None = None
+    for one in stretches:
+        if one is not None:
+            extent = one if extent is None else (min(extent[0], one[0]), max(extent[1], one[1]))
+    return extent
+
+
 @dataclasses.dataclass(frozen=True)
 class Notes:
     """What the JSON file beside a series says: its clock, its scale, its convention (`hold`, `event`, or `helper` for what `ticks` writes),

@@ -5,7 +5,7 @@ import dataclasses
 import math
 from typing import Iterable, Iterator
 
-from .files import Extremes
+from .files import Extremes, extent_of
 from .grammar import statements_of
 from .rows import RowArrays
 
@@ -88,8 +88,7 @@ class Extent:
 
 def edges_of(extents: Iterable[Extent]) -> tuple[int, int] | None:
     """The ticks over which any of these have rows; None if none has."""
-    edges = [(one.first, one.last) for one in extents if one.first is not None and one.last is not None]
-    return (min(first for first, _ in edges), max(last for _, last in edges)) if edges else None
+    return extent_of((one.first, one.last) for one in extents if one.first is not None and one.last is not None)
 
 
 def cut_note(over: Over, extents: dict[str, Extent]) -> str | None:

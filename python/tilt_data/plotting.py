@@ -12,9 +12,9 @@ from . import frames
 from .axis import axis_of
 from .clock import zone_of
 from .convention import Convention
-from .drawn import Drawn, Picture, add_drawn, bands_of, clipped, numbers_of, printable, thinned, widened
+from .drawn import Drawn, Picture, add_drawn, bands_of, clipped, numbers_of, printable, thinned
 from .errors import Refused
-from .files import Outputs, failing_at, scratch, taking
+from .files import Outputs, extent_of, failing_at, scratch, taking
 from .progress import shown
 from .version import VERSION
 
@@ -108,15 +108,6 @@ def steps(rows: Iterable[tuple[int, int, int]], scale: int, lo: int = 0, column:
     return times, values
 
 
-def extent_of(files: Iterable[Drawn]) -> tuple[int, int] | None:
-    """From the first start to the last end in all files; None if there is no row."""
-    extent = None
-    for one in {one.file: one for one in files}.values():
-        for start, end, _ in one.rows():
-            extent = widened(extent, start, end)
-    return extent
-
-
 def draw_one(axes: Any, one: Drawn, lo: int, hi: int, number: int, columns: int) -> Any:
     """Draws a file, in the look of this number, and returns what the legend shows of it; None if there is nothing in the stretch."""
     rows = clipped(shown(one.rows(), "rows"), lo, hi)
@@ -155,7 +146,8 @@ def draw(picture: Picture) -> Any:
     from matplotlib.figure import Figure
 
     words, panels = picture.words, picture.panels
-    lo, hi = picture.stretch(extent_of(picture.all) if None in picture.given else None)
+    files = {one.file: one for one in picture.all if None in picture.given}
+    lo, hi = picture.stretch(extent_of(row[:2] for one in files.values() for row in one.rows()))
     numbers, size = numbers_of(picture.all), Size.of(words.size, words.dpi, len(panels))
     figure = Figure(figsize=(size.width, size.height), dpi=size.dpi)
     rows = figure.subplots(len(panels), 1, sharex=True, squeeze=False)

@@ -10,9 +10,9 @@ from typing import Any
 from .arrivals import Arrivals, read_arrivals
 from .drawn import Picture, add_drawn
 from .errors import Refused, note
-from .files import ValuesAt
+from .files import ValuesAt, extent_of
 from .view.coding import Summary, fields_of
-from .view.command import POLICY, SCRIPTS, Written, extent_of, fields_element, fields_of_clock, fields_of_page
+from .view.command import POLICY, SCRIPTS, Written, fields_element, fields_of_clock, fields_of_page
 from .view.command import frame_of, gap_of, is_band, title_of, write_files
 
 HELP = """Shows the page of `view` at an address of this machine while rows arrive, until Ctrl-C. A FILE that is - for standard input, or
@@ -86,7 +86,7 @@ def page_of(picture: Picture, live: list[str]) -> str:
     before, after = frame_of(title, LIVE_POLICY, LIVE_SCRIPTS)
     text = io.StringIO()
     write_files(text, picture, gap, written)
-    extent = extent_of(written)
+    extent = extent_of(part.extent for part in written.values())
     if extent is not None and start is not None and extent[1] <= start:
         extent = None
     stretch = picture.stretch(extent)

@@ -12,9 +12,24 @@ import re
 from typing import IO, Any, Iterable, Iterator
 
 from .clock import Clock, duration_of, zone_of
-from .drawn import joined
+from .drawn import chained, joined
 from .errors import Refused, refused_at
-from .files import HEADER, Row, Values, notes_of, notes_path, reading, records, row_of, rows_in, safe, same_file, writing
+from .files import (
+    HEADER,
+    Extremes,
+    Row,
+    Values,
+    notes_of,
+    notes_of_like,
+    notes_path,
+    reading,
+    records,
+    row_of,
+    rows_in,
+    safe,
+    same_file,
+    writing,
+)
 from .progress import shown
 from .scales import decimal_text
 
@@ -87,11 +102,9 @@ class Looks:
 
     def __init__(self, words: argparse.Namespace) -> None:
         self.out: str | None = words.out
-        self.like = None if words.like is None else notes_of(words.like)
+        self.like = None if words.like is None else notes_of_like(words.like)
         if words.like is not None:
             self.keep(words.like)
-            if self.like is None:
-                raise Refused(f"{words.like}: there is no JSON file beside it; `tilt-data series` writes one")
         self.zone = words.zone
         self.scales = dict(word.rpartition("=")[::2] for word in words.scale)
         for text in self.scales.values():
@@ -123,16 +136,7 @@ class Looks:
 
 def merged(rows: Iterable[Row]) -> Iterator[Row]:
     """Equal neighbours as one row."""
-    held: Row | None = None
-    for row in rows:
-        if held is not None and held[1] == row[0] and held[2] == row[2]:
-            held = held[0], row[1], held[2]
-        else:
-            if held is not None:
-                yield held
-            held = row
-    if held is not None:
-        yield held
+    return chained(rows, lambda one, other: (one[0], other[1], one[2]) if one[1:] == (other[0], other[2]) else None)
 
 
 def main(words: argparse.Namespace) -> int:
@@ -231,28 +235,19 @@ class Within:
     rows: Iterator[Row]
     held: Row | None = None
 
-    def figures(self, lo: int, hi: int) -> tuple[int | None, int | None, int, int]:
-        """The least and the greatest value of the ticks in `(lo, hi]`, the sum over these ticks, and how many of them have a value."""
-        least: int | None = None
-        greatest: int | None = None
-        total = ticks = 0
-        while True:
-            if self.held is None or self.held[1] <= lo:
-                self.held = next(self.rows, None)
-                if self.held is None:
-                    return least, greatest, total, ticks
-                continue
-            start, end, value = self.held
-            if start >= hi:
-                return least, greatest, total, ticks
-            if value is not None:
-                length = min(end, hi) - max(start, lo)
-                least = value if least is None else min(least, value)
-                greatest = value if greatest is None else max(greatest, value)
+    def figures(self, lo: int, hi: int) -> tuple[Extremes, int, int]:
+        """The extreme values of the ticks in `(lo, hi]`, the sum over these ticks, and how many of them have a value."""
+        extremes, total, ticks = Extremes(), 0, 0
+        while (row := self.held or next(self.rows, None)) is not None:
+            (start, end, value), self.held = row, row
+            length = min(end, hi) - max(start, lo)
+            if value is not None and length > 0:
+                extremes.take(value)
                 total, ticks = total + length * value, ticks + length
             if end > hi:
-                return least, greatest, total, ticks
+                break
             self.held = None
+        return extremes, total, ticks
 
 
 def mean_text(total: int, ticks: int, scale: int) -> str:
@@ -299,6 +294,6 @@ def episodes_of(rows: Iterator[Row], look: Look, others: list[tuple[str, str]], 
     for start, end in joined(((start, end) for start, end, value in rows if value is not None), gap):
         fields = [look.time(start), look.time(end), length_text(look.clock, end - start)]
         for one, shape in zip(within, shapes):
-            least, greatest, total, ticks = one.figures(start, end)
-            fields += [shape.value(least), shape.value(greatest), mean_text(total, ticks, shape.scale)]
+            extremes, total, ticks = one.figures(start, end)
+            fields += [*map(shape.value, extremes.both), mean_text(total, ticks, shape.scale)]
         yield fields

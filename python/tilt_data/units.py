@@ -13,7 +13,7 @@ from typing import IO, Callable, Iterable, Iterator, Mapping, NamedTuple, Sequen
 
 from . import program
 from .errors import Refused, TiltError
-from .files import Row, Stale, notes_of, rows_in, scratch
+from .files import Extremes, Row, Stale, notes_of, rows_in, scratch
 from .forms import walk
 from .grammar import inputs_in, statements_of
 from .scales import decimal_text, factors
@@ -266,9 +266,7 @@ def longest_window(text: bytes) -> int:
 def known_of(rows: Iterable[Row], ticks: int) -> Known:
     """What is known of an input with these rows, which are in order: its marks in so many ticks."""
     held: collections.deque[int] = collections.deque()
-    most, last = 0, None
-    least: int | None = None
-    greatest = 0
+    most, last, extremes = 0, None, Extremes()
     for start, end, value in rows:
         for edge in (end,) if start == last else (start, end):
             held.append(edge)
@@ -276,6 +274,6 @@ def known_of(rows: Iterable[Row], ticks: int) -> Known:
                 held.popleft()
             most = max(most, len(held))
         last = end
-        if value is not None:
-            least, greatest = (value, value) if least is None else (min(least, value), max(greatest, value))
-    return Known(least or 0, greatest, max(1, most), ticks)
+        extremes.take(value)
+    least, greatest = extremes.both
+    return Known(least or 0, greatest or 0, max(1, most), ticks)

@@ -10,9 +10,9 @@ from typing import IO, Any, Iterator
 
 from ..axis import STEPS, changes
 from ..clock import TIMES, Clock, duration_of, zone_of
-from ..drawn import Drawn, Picture, add_drawn, bands_of, met, numbers_of, printable, widened
+from ..drawn import Drawn, Picture, add_drawn, bands_of, met, numbers_of, printable
 from ..errors import Refused
-from ..files import Row, scratch, writing
+from ..files import Row, extent_of, scratch, writing
 from ..progress import shown
 from ..version import VERSION
 from .coding import Block, Summary, blocks_of, fields_of, packed, times_of
@@ -57,7 +57,7 @@ def main(words: argparse.Namespace) -> int:
             file.write(before)
             written: dict[str, Written] = {}
             write_files(file, picture, gap_of(words.gap, picture.clock), written)
-            stretch = picture.stretch(extent_of(written))
+            stretch = picture.stretch(extent_of(part.extent for part in written.values()))
             file.write(fields_element({"title": title, **fields_of_page(picture, stretch, written)}))
             file.write(after)
     return 0
@@ -89,15 +89,6 @@ def write_files(file: IO[str], picture: Picture, gap: int, written: dict[str, Wr
 
 def is_band(file: str, picture: Picture) -> bool:
     return any(one.form == "band" and one.file == file for one in picture.all)
-
-
-def extent_of(written: dict[str, Written]) -> tuple[int, int] | None:
-    """The extent of all rows, or None if there is none."""
-    extent = None
-    for part in written.values():
-        if part.extent is not None:
-            extent = widened(extent, *part.extent)
-    return extent
 
 
 def fields_element(fields: dict[str, Any]) -> str:
