@@ -33,6 +33,17 @@ def check(workers: int | None, retries: int) -> None:
             raise Refused(f"{name}: {least} or more was expected")
 
 
+def add_options(parser: argparse.ArgumentParser, does: str) -> None:
+    """The options that say where tasks run, and what the query means there. `does` says what a scheduler's workers are given, as in
+    `run the parts`."""
+    parser.add_argument("--workers", type=int, metavar="N", help="how many workers this machine has (one for each processor)")
+    address = f"{does} on the workers of this Dask scheduler, such as tls://host:8786"
+    danger = "anyone who reaches a tcp:// address can run code on its workers"
+    parser.add_argument("--scheduler", metavar="ADDRESS", help=f"{address}; {danger}")
+    parser.add_argument("--retries", type=int, metavar="N", default=3, help="how often what fails is started again (3)")
+    parser.add_argument("--whole", action="store_true", help="the query and its outputs are in whole numbers, as for `tilt`")
+
+
 def prepare(words: argparse.Namespace) -> None:
     """What a command does first whose options say where its tasks run."""
     if words.scheduler is not None and words.workers is not None:

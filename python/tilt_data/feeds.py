@@ -246,13 +246,7 @@ def add(commands: Any) -> None:
     parser.add_argument("options", nargs="*", metavar="-- OPTIONS", help="options of tilt-live, such as --lateness 10")
     parser.add_argument("--out", metavar="FOLDER", required=True, help="the folder in which each key has a folder of its own")
     parser.add_argument("--once", action="store_true", help="end once all lines that are there are taken")
-    parser.add_argument("--workers", type=int, metavar="N", help="how many workers this machine has (one for each processor)")
-    address = "serve the feeds on the workers of this Dask scheduler, such as tls://host:8786"
-    parser.add_argument(
-        "--scheduler", metavar="ADDRESS", help=f"{address}; anyone who reaches a tcp:// address can run code on its workers"
-    )
-    parser.add_argument("--retries", type=int, metavar="N", default=3, help="how often a feed that fails is tried again (3)")
-    parser.add_argument("--whole", action="store_true", help="the query and its outputs are in whole numbers, as for `tilt`")
+    engine.add_options(parser, "serve the feeds")
     parser.set_defaults(main=main)
     parser.parse_known_args = functools.partial(with_options, parser.parse_known_args)
 

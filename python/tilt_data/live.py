@@ -172,16 +172,9 @@ class Live:
             name: [its.moment, its.start, its.value, one.known, one.lasts] for name, one in taken.inputs.items() if (its := one.converter)
         }
         kept = self.kept.read_text() if self.done is not None else None
-        fields = {
-            "format": FORMAT,
-            "version": VERSION,
-            "of": self.described(),
-            "inputs": inputs,
-            "advanced": taken.advanced,
-            "done": self.done,
-        }
-        fields |= {"zone": taken.zone and str(taken.zone), "zoned": taken.zoned, "lines": b"".join(taken.lines).decode(), "kept": kept}
-        return json.dumps(fields).encode()
+        fields = {"format": FORMAT, "version": VERSION, "of": self.described(), "inputs": inputs, "done": self.done, "kept": kept}
+        fields |= {"advanced": taken.advanced, "zone": taken.zone and str(taken.zone), "zoned": taken.zoned}
+        return json.dumps({**fields, "lines": b"".join(taken.lines).decode()}).encode()
 
     def described(self) -> dict[str, Any]:
         """What a state belongs to: the query over whole numbers, and what readings mean."""

@@ -55,13 +55,8 @@ def add(commands: Any) -> None:
     parser.add_argument("query", metavar="QUERY")
     parser.add_argument("binds", nargs="*", metavar="NAME=FILES", help="the series files of an input, with {key}, * and ?")
     parser.add_argument("--out", metavar="FOLDER", required=True, help="the folder of the outputs, and of what is kept of a call")
-    parser.add_argument("--workers", type=int, metavar="N", help="how many parts run at a time on this machine (one for each processor)")
-    address = "run the parts on the workers of this Dask scheduler, such as tls://host:8786"
-    danger = "anyone who reaches a tcp:// address can run code on its workers"
-    parser.add_argument("--scheduler", metavar="ADDRESS", help=f"{address}; {danger}")
     parser.add_argument("--part-rows", type=int, metavar="N", default=PART_ROWS, help=f"about how many rows a part has ({PART_ROWS})")
-    parser.add_argument("--retries", type=int, metavar="N", default=3, help="how often a task that fails is started again (3)")
-    parser.add_argument("--whole", action="store_true", help="the query and its outputs are in whole numbers, as for `tilt`")
+    engine.add_options(parser, "run the parts")
     parser.set_defaults(main=main)
 
 

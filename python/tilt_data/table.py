@@ -14,22 +14,8 @@ from typing import IO, Any, Iterable, Iterator
 from .clock import Clock, duration_of, zone_of
 from .drawn import chained, joined
 from .errors import Refused, refused_at
-from .files import (
-    HEADER,
-    Extremes,
-    Row,
-    Values,
-    notes_of,
-    notes_of_like,
-    notes_path,
-    reading,
-    records,
-    row_of,
-    rows_in,
-    safe,
-    same_file,
-    writing,
-)
+from .files import HEADER, Extremes, Row, Values, notes_of, notes_of_like, notes_path, reading, records, row_of, rows_in, safe
+from .files import same_file, writing
 from .progress import shown
 from .scales import decimal_text
 
