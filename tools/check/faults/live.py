@@ -7,7 +7,7 @@ The feed comes through a pipe whose packets are lines, so each line is a read of
 - If a read of the feed fails, the status is 3, and exactly the output and the reports for the lines before it were written.
 - If a write or a flush of the output fails, the status is 4, and a prefix of the output was written, with all that was handed on before.
 - If a report can't be written, nothing else changes. What is interrupted is tried again.
-- If the query can't be read, the status is 3, and nothing is written.
+- If the query can't be read, the status is 3, and nothing is written. If the table of the zone can't be, it is 1.
 - If the program is killed, the output is a prefix, with all that the lines before the last read made final.
 - If there is no memory from a call on, the status is 5, or it was enough.
 - If the state can't be read, the status is 3, and nothing is written. If it can't be saved, the status is 6, and all output was written.
@@ -65,6 +65,9 @@ LINES_OF_READINGS = [
     "2026-03-01T00:00:12Z,load,0.2\n",
     "2026-03-01T00:00:20Z,,\n",
 ]
+# The same with local times of a zone, whose clocks are an hour ahead on that day.
+ZONE = ["--zone", "Europe/Zurich", "--fold", "first"]
+LINES_OF_LOCAL_TIMES = [line.replace("T00:", "T01:").replace("Z,", ",") for line in LINES_OF_READINGS]
 STATE = "s"
 
 
@@ -85,6 +88,7 @@ CASES = [
     Case(["--begun", "--resume", STATE, "--save", STATE], 5),
     Case(READINGS, lines=LINES_OF_READINGS),
     Case([*READINGS, "--ties", "last", "--begun"], lines=LINES_OF_READINGS),
+    Case([*READINGS, *ZONE], lines=LINES_OF_LOCAL_TIMES),
 ]
 ERRORS = ["EIO", "ENOSPC", "EINTR", "EMFILE"]
 
@@ -175,8 +179,9 @@ def text_in(folder: str, name: str) -> str | None:
 
 def part_of(name: str, rest: str) -> str:
     """What a call has to do with. The state is read under its own name, and written beside it."""
-    for file, part in (("q", "query"), (STATE, "state")):
-        if name in OPENS and f'"{file}"' in rest and "O_RDONLY" in rest or name in READS and f"/{file}>" in rest.split(",")[0]:
+    for file, part in (("q", "query"), (STATE, "state"), (f"usr/share/zoneinfo/{ZONE[1]}", "zone")):
+        is_named = f'"{file}"' in rest or f'"/{file}"' in rest
+        if name in OPENS and is_named and "O_RDONLY" in rest or name in READS and f"/{file}>" in rest.split(",")[0]:
             return part
     if name in RENAMES + SYNCS or name in OPENS and "O_CREAT" in rest or name in WRITES and not rest.startswith(("1<", "2<")):
         return "save"
@@ -224,6 +229,8 @@ def expected(clean: Clean, call: Call, error: str) -> str:
         return shown((3, clean.out[call.lines], clean.err[call.lines] + "tilt: 4 read fault: -\n"))
     if call.part in ("query", "state"):
         return shown((3, "", f"tilt: 4 read fault: {'q' if call.part == 'query' else STATE}\n"))
+    if call.part == "zone":
+        return shown((1, "", f"tilt: 67 no zone {ZONE[1]}\n"))
     if call.part == "save":
         return shown((6, clean.out[-1], clean.err[-1] + f"tilt: 6 save fault: {STATE}\n"))
     return shown(whole)
