@@ -135,8 +135,8 @@ def scales_of(words: list[str]) -> dict[str, int]:
     scales = {}
     for word in words:
         name, _, text = word.rpartition("=")
-        if not re.fullmatch("0*[1-9][0-9]{0,18}", text, re.ASCII):
-            raise Refused(f"--scale {printable(word)}: a whole number above 0 was expected, or NAME=N")
+        if not re.fullmatch("0*[1-9][0-9]{0,29}", text, re.ASCII):
+            raise Refused(f"--scale {text[:40]}: a whole number above 0, of at most 30 digits, was expected")
         scales[name] = int(text)
     return scales
 

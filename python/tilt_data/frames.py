@@ -24,7 +24,7 @@ from .over import Extent, Over, cut_note, edges_of, over_of
 from .program import Explained
 from .rows import RowArrays, arrays_in, beyond, fits, marks_in, output_of, rows_pushed
 from .tokens import decimals_in, without_points
-from .units import Checked, Known, Units, counted, longest_window, noted, overflow_of
+from .units import Checked, Known, Units, counted, longest_window, noted, overflow_of, put
 from .whole import digits_in, whole_numbers
 from .why import check
 
@@ -104,10 +104,7 @@ class Query:
 
     def put(self, folder: str, text: str | None = None, name: str = "query.tilt") -> str:
         """Writes the query, or a text in its place, to a folder: the path."""
-        path = os.path.join(folder, name)
-        with open(path, "w", encoding="utf-8", newline="") as file:
-            file.write(self.text if text is None else text)
-        return path
+        return put((self.text if text is None else text).encode(), folder, name)
 
     def over_whole(self, inputs: Inputs, is_whole: bool = False) -> Checked:
         """The query over whole numbers. If a number in it isn't whole at a scale that the data give, they get the scale of all numbers."""

@@ -8,18 +8,16 @@ import datetime
 import decimal
 import itertools
 import os
-import re
 from typing import IO, Any, Iterable, Iterator
 
 from .clock import Clock, duration_of, zone_of
-from .drawn import chained, joined
+from .drawn import chained, joined, scales_of
 from .errors import Refused, refused_at
 from .files import HEADER, Extremes, Row, Values, notes_of, notes_of_like, notes_path, reading, records, row_of, rows_in, safe
 from .files import same_file, writing
 from .progress import shown
 from .scales import decimal_text
 
-SCALE = re.compile(r"[0-9]{1,30}", re.ASCII)
 HELP = """Prints outputs, or series, with dates and decimals. A series has its clock and its scale in the JSON file beside it. An output
 has the clock of the series that --like names, and its values are as `tilt-data run` prints them, unless --scale is given. A row
 start,end is the stretch of time from the first to the second; which of its ends belongs to it is the `closed` of the series. If
@@ -92,10 +90,7 @@ class Looks:
         if words.like is not None:
             self.keep(words.like)
         self.zone = words.zone
-        self.scales = dict(word.rpartition("=")[::2] for word in words.scale)
-        for text in self.scales.values():
-            if not SCALE.fullmatch(text) or int(text) == 0:
-                raise Refused(f"--scale {text[:40]}: a whole number above 0, of at most 30 digits, was expected")
+        self.scales = scales_of(words.scale)
         # A scale of a name that no file has would change nothing.
         names = [named(word)[0] for word in [*words.files, *words.of]]
         for name in self.scales:
@@ -114,7 +109,7 @@ class Looks:
         notes = own or self.like
         if notes is None:
             raise Refused(f"{file}: its ticks and scale aren't known: no JSON file is beside it; --like SERIES names a series that has one")
-        scale = int(self.scales.get(name, self.scales.get("", 1 if own is None else own.scale)))
+        scale = self.scales.get(name, self.scales.get("", 1 if own is None else own.scale))
         return Look(
             notes.clock, zone_of(self.zone or notes.zone), scale, None if own is None else own.sha256, Values() if own is None else None
         )

@@ -152,9 +152,9 @@ class Units:
         return max((whole.decimals for whole in self.found.values() if whole is not None), default=0)
 
 
-def put(text: bytes, folder: str) -> str:
+def put(text: bytes, folder: str, name: str = "query.tilt") -> str:
     """Writes a query to a folder: its path."""
-    path = os.path.join(folder, "query.tilt")
+    path = os.path.join(folder, name)
     with open(path, "wb") as file:
         file.write(text)
     return path
