@@ -69,7 +69,7 @@ Architecture: {architecture()}
 Maintainer: tilt <tilt@localhost>
 Installed-Size: {kilobytes}
 Depends: libc6, python3 (>= 3.11)
-Recommends: python3-matplotlib, python3-pandas
+Recommends: python3-matplotlib, python3-pandas, tzdata
 Suggests: mosquitto-clients, python3-distributed, python3-tqdm
 Section: science
 Priority: optional
