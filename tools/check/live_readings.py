@@ -102,7 +102,7 @@ BAD_VALUES = {
     "scale": "0 -1 1.5 x x= =1 x=0 x=1,x=1 x=1, 1000000000000000001 auto",
     "closed": "Left both",
     "ties": "all",
-    "zone": "/ /UTC ../UTC Europe/./Zurich Europe/Z\u00fcrich UTC! Europe\\Zurich zone.tab",
+    "zone": " / /UTC ../UTC Europe/./Zurich Europe/Z\u00fcrich UTC! Europe\\Zurich zone.tab",
     "decimal": "; ,",
     "delimiter": ';; " \u00e9 . \\n',
     "origin": "2026-03-01 2026-03-01T00:00:00 2026-02-30T00:00:00Z 0 x",
