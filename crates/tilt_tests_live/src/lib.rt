@@ -1,4 +1,5 @@
-//! Tests of the live engine: feeds, event by event, and what comes out after each; lines of feeds; and watermarks.
+//! Tests of the live engine: feeds, event by event, and what comes out after each, also from a checkpoint of sessions on; lines of feeds;
+//! and watermarks.
 //!
 //! The expected values were worked out by hand from the rules of what is final after an event, of what a line says,
 //! and of watermarks.
@@ -10,6 +11,8 @@ mod feeds;
 mod lines;
 #[cfg(test)]
 mod resume;
+#[cfg(test)]
+mod started;
 #[cfg(test)]
 mod watermarks;
 #[cfg(test)]
