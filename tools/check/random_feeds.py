@@ -1,15 +1,20 @@
 #!/usr/bin/env python3
 """Runs random feeds of random queries on the program below, with fusion and without, and compares what it prints after each line with what
-tools/check/feeds.py works out: `tools/check/random_feeds.py [--program PATH | --alone] [--seed N] [--resumed N] [QUERIES]`.
+tools/check/feeds.py works out:
+`tools/check/random_feeds.py [--program PATH | --alone] [--seed N] [--resumed N] [--sessions N] [QUERIES]`.
 
-`PROGRAM QUERYFILE [--plain | --resumed N]` reads lines of feeds, as `tilt_feed_line` has them without keys; an empty line begins the next
-feed. After each other line it prints `start,end,value` for each snapshot that can be printed now and couldn't before, and `start,,value` if
-one has begun; or `!` and the fault, if the line isn't allowed; and then the line `.`. A null value is empty.
+`PROGRAM QUERYFILE [--plain | --resumed N | --after CHECKPOINT [--plain]]` reads lines of feeds, as `tilt_feed_line` has them without keys;
+an empty line begins the next feed. After each other line it prints `start,end,value` for each snapshot that can be printed now and couldn't
+before, and `start,,value` if one has begun; or `!` and the fault, if the line isn't allowed; and then the line `.`. A null value is empty.
 
 With `--resumed N` the program drops its live engine after each N lines, and another one goes on from the text of a state. The feeds of one
 query in three are run so too, with N = 1, 2 and 3 in turn; `--resumed K` makes it one query in K. After a line that breaks a rule the
 engine stays. If that line is for all inputs, the events before the fault were taken, and what they have made final isn't printed yet. An
 engine may be dropped only when all of that is.
+
+With `--after CHECKPOINT` a live engine goes on from a checkpoint of sessions. One of ten feeds is run so too; `--sessions N` makes it N.
+`tilt start` gets the rows that the feed has up to some line, at which no row is open, and the engine takes the lines from there on. What
+the sessions print, without nulls, and what the engine prints have to be the whole.
 
 Of each feed it is checked too that the definitions keep their laws: what is printed goes on from what was printed before, and from what had
 begun, and is the output on the rows once the feed is finished. With `--alone` nothing else is checked, and no program is run.
@@ -33,8 +38,8 @@ sys.path.insert(0, os.path.dirname(os.path.dirname(os.path.realpath(__file__))))
 from check.evaluate import REDUCERS, Reader, Row, tokens_of
 from check.feeds import T, AllKnownUpTo, Begun, Change, Event, Feed, Finish, InputFeed, KnownUpTo, Line, NoValueFrom, Query, Update
 from check.feeds import ValueFrom, WholeRow, after, empty_feed, event_fault, events_of, line_text, printed_and_begun, query_of, rows_now
-from shared.paths import TOP
-from shared.series import field
+from shared.paths import BUILT, TOP
+from shared.series import field, put_rows
 from shared.tally import Tally
 
 SEED = 21
@@ -44,6 +49,8 @@ PROGRAM = os.path.join(TOP, "crates", "tilt_run_feeds", "out", "tilt_run_feeds")
 # The feeds of one query in so many are run with engines that are dropped after some lines: after these numbers of lines in turn.
 RESUMED = 3
 LINES_OF_AN_ENGINE = (1, 2, 3)
+# So many feeds of each query begin with sessions.
+SESSIONS = 1
 # How long a run over all feeds of a query may take.
 SECONDS = 60
 
@@ -276,8 +283,13 @@ def answer_of(rows: Iterable[Row], begun: Begun | None) -> Answer:
 
 
 def case_of(text: str, query: Query, lines: list[Line]) -> Case:
+    return case_after(text, query, empty_feed(query.inputs), 0, lines)
+
+
+def case_after(text: str, query: Query, feed: Feed, given: int, lines: list[Line]) -> Case:
+    """What is expected after each line that comes after a feed, if so many snapshots of its output were printed before them."""
     case = Case(lines, [], [])
-    feed, before, given = empty_feed(query.inputs), Output([], None), 0
+    before = Output([], None)
     for line in lines:
         feed, fault = taken(feed, events_of(line, query.inputs))
         now = Output(*printed_and_begun(query, feed))
@@ -292,6 +304,60 @@ def case_of(text: str, query: Query, lines: list[Line]) -> Case:
     return case
 
 
+# Sessions
+
+
+@dataclasses.dataclass(frozen=True)
+class Start:
+    """A feed as sessions have seen it, the cut of each input there, and the lines after that."""
+
+    feed: Feed
+    cuts: dict[str, int]
+    later: list[Line]
+
+
+def random_cut(draw: random.Random, known: InputFeed) -> int:
+    """A cut up to which an input without an open row was seen: its watermark, or another one behind which its last row ends there."""
+    if known.rows and known.rows[-1][1] == known.watermark:
+        return draw.randint(known.rows[-1][0] + 1, known.watermark)
+    return known.watermark
+
+
+def random_start(draw: random.Random, names: Sequence[str], lines: Sequence[Line]) -> Start:
+    """A feed that sessions have seen up to one of its lines. None of its rows is open there."""
+    starts = []
+    feed = empty_feed(names)
+    for at, line in enumerate(lines):
+        if not feed.finished and all(known.open_row is None for known in feed.inputs.values()):
+            starts.append((feed, [*lines[at:]]))
+        feed, _ = taken(feed, events_of(line, names))
+    seen, later = draw.choice(starts)
+    return Start(seen, {name: random_cut(draw, known) for name, known in seen.inputs.items()}, later)
+
+
+def start_session(folder: str, text: str, start: Start, at: int) -> list[str] | None:
+    """What `tilt start` prints of the rows that were seen, if it ends well. Without inputs the cut is this tick. The checkpoint is in
+    `state`."""
+    with open(os.path.join(folder, "q"), "w", encoding="ascii") as file:
+        file.write(text)
+    for name, known in start.feed.inputs.items():
+        put_rows(os.path.join(folder, f"{name}.csv"), known.rows)
+    cuts = ",".join(f"{name}={cut}" for name, cut in start.cuts.items()) or str(at)
+    words = [BUILT, "start", "q", *[f"{name}={name}.csv" for name in start.cuts], "--upto", cuts, "--save", "state"]
+    done = subprocess.run(words, cwd=folder, capture_output=True, encoding="utf-8", timeout=SECONDS)
+    return done.stdout.splitlines()[1:] if done.returncode == 0 else None
+
+
+def numbers_given(folder: str, final: Sequence[Row]) -> list[int]:
+    """How many of the snapshots that are final the sessions have passed, by the start of the one that is open in `state`. If none is, that
+    is none of the output or all of it."""
+    with open(os.path.join(folder, "state"), encoding="ascii") as file:
+        [word] = [line.split()[1] for line in file if line.startswith("open ")]
+    if word == "none":
+        return [0, len(final)]
+    return [sum(start < int(word) for start, _, _ in final)]
+
+
 # What comes
 
 
@@ -304,14 +370,19 @@ class Run:
 
 
 def run_of(words: Sequence[str], text: str, cases: Sequence[Case]) -> Run:
-    feeds = "\n".join("".join(f"{line_text(line)}\n" for line in case.lines) for case in cases)
     with tempfile.TemporaryDirectory() as folder:
         with open(os.path.join(folder, "q"), "w", encoding="ascii") as file:
             file.write(text)
-        try:
-            done = subprocess.run(words, cwd=folder, input=feeds, capture_output=True, encoding="utf-8", errors="replace", timeout=SECONDS)
-        except subprocess.TimeoutExpired:
-            return Run(f"no end in {SECONDS} s", [])
+        return run_in(folder, words, cases)
+
+
+def run_in(folder: str, words: Sequence[str], cases: Sequence[Case]) -> Run:
+    """A run in a folder that has the query."""
+    feeds = "\n".join("".join(f"{line_text(line)}\n" for line in case.lines) for case in cases)
+    try:
+        done = subprocess.run(words, cwd=folder, input=feeds, capture_output=True, encoding="utf-8", errors="replace", timeout=SECONDS)
+    except subprocess.TimeoutExpired:
+        return Run(f"no end in {SECONDS} s", [])
     answers: list[Answer] = [[]]
     for line in done.stdout.splitlines():
         if line == ".":
@@ -347,6 +418,23 @@ def check_run(words: Sequence[str], text: str, cases: Sequence[Case], tally: Tal
     tally.expect(run.end == "status 0" and at == len(run.answers), f"{' '.join(words)}\n{text}{run.end}; more: {run.answers[at:]}")
 
 
+def check_start(draw: random.Random, program: str, text: str, query: Query, lines: Sequence[Line], at: int, tally: Tally) -> None:
+    """A feed that sessions have seen up to some line. They print a part of what is final, without nulls, and an engine prints the rest."""
+    start = random_start(draw, query.inputs, lines)
+    final, _ = printed_and_begun(query, start.feed)
+    with tempfile.TemporaryDirectory() as folder:
+        printed = start_session(folder, text, start, at)
+        numbers = [] if printed is None else numbers_given(folder, final)
+        given = [number for number in numbers if printed == answer_of([row for row in final[:number] if row[2] is not None], None)]
+        tally.expect(given != [], f"{text}{start}\nthe session: {printed}\nfinal: {final}")
+        cases = [case_after(text, query, start.feed, number, start.later) for number in given[:2]]
+        for words in ([program, "q", "--after", "state"], [program, "q", "--after", "state", "--plain"]) if cases else ():
+            run = run_in(folder, words, cases[:1])
+            wrong = [difference(case, run.answers) for case in cases]
+            is_well = None in wrong and run.end == "status 0"
+            tally.expect(is_well, f"{' '.join(words)}\n{text}{start}\n{wrong[0]}\nthe run: {run.end}")
+
+
 def ways_of(number: int, resumed: int) -> list[list[str]]:
     """The options of each run over the feeds of the query with a number, if one query in so many has engines that are dropped."""
     ways: list[list[str]] = [[], ["--plain"]]
@@ -356,7 +444,7 @@ def ways_of(number: int, resumed: int) -> list[list[str]]:
     return ways
 
 
-def check_query(draw: random.Random, program: str | None, ways: Sequence[Sequence[str]], tally: Tally) -> None:
+def check_query(draw: random.Random, program: str | None, ways: Sequence[Sequence[str]], sessions: int, tally: Tally) -> None:
     # At times all that is asked and told lies at an end of time.
     base = draw.choice([0] * 12 + [T - 40, T - 40, -T + 14])
     text = random_query(draw, base)
@@ -367,6 +455,8 @@ def check_query(draw: random.Random, program: str | None, ways: Sequence[Sequenc
     if program is not None:
         for options in ways:
             check_run([program, "q", *options], text, cases, tally)
+        for case in cases[:sessions]:
+            check_start(draw, program, text, query, case.lines, base, tally)
 
 
 def main(arguments: Sequence[str]) -> int:
@@ -376,6 +466,7 @@ def main(arguments: Sequence[str]) -> int:
     words.add_argument("--alone", action="store_true", help="run no program")
     words.add_argument("--seed", type=int, default=SEED, help="from which the queries and feeds are drawn")
     words.add_argument("--resumed", type=int, default=RESUMED, help="one query in so many has engines that are dropped")
+    words.add_argument("--sessions", type=int, default=SESSIONS, help="how many of the ten feeds of a query begin with sessions")
     chosen = words.parse_args(arguments)
     program = None if chosen.alone else os.path.abspath(chosen.program)
     draw = random.Random(chosen.seed)
@@ -384,7 +475,7 @@ def main(arguments: Sequence[str]) -> int:
         tally.expect(False, f"{program} isn't built")
         return tally.end()
     for number in range(chosen.queries):
-        check_query(draw, program, ways_of(number, chosen.resumed), tally)
+        check_query(draw, program, ways_of(number, chosen.resumed), chosen.sessions, tally)
     return tally.end()
 
 

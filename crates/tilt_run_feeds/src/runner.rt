@@ -1,31 +1,44 @@
 // The feeds of a query, one after another.
 ghost use Rattle.std.specs.Prelude.{IfOk};
 ghost use Rattle.tilt_live.specs.Lives.{IsLive};
+ghost use Rattle.tilt_live_start.specs.Sessions.{IsLiveSession};
+ghost use Rattle.tilt_run_feeds.specs.Engines.{IsEngine};
 
+use crate::engine::Engine;
 use crate::resuming::Resuming;
 use std::alloc::Global;
 use std::io::{self, BufRead, BufReader, BufWriter, Write};
 use std::test::Fail;
 use std::{env, fs};
 use tilt_base::Cell;
+use tilt_checkpoint::decode;
 use tilt_compiler::accept;
 use tilt_core::Core;
 use tilt_engine::TakeError;
 use tilt_feed::{Event, EventFault, Update};
 use tilt_feed_line::{Line, LineReader};
 use tilt_live::Live;
+use tilt_live_start::LiveSession;
 use tilt_testing::core_of;
 
-// A run of feeds of a query: how their engines are made and dropped, the engine of the last feed, and what a state of that feed needs.
+// How the engines of feeds are made: whether their code is fused, and the checkpoint of sessions that they go on from, if there is one. An
+// engine is dropped after so many lines, or never.
+#[derive(Drop)]
+struct Way {
+    fuse: bool,
+    every: Option<u64>,
+    checkpoint: Option<String>,
+}
+
+// A run of feeds of a query: how their engines are made, the engine of the last feed, and what a state of that feed needs.
 #[derive(Drop)]
 struct FeedRun {
     alloc: Global,
     text: String,
-    fuse: bool,
-    every: Option<u64>,
+    way: Way,
     core: Core,
     lines: LineReader,
-    live: Live,
+    engine: Engine,
     resuming: Resuming,
 }
 
@@ -44,67 +57,80 @@ pub(crate) fn run(rt: &HostRuntime) -> Result<(), Fail> {
 
 // The run that the arguments ask for.
 fn asked(rt: &HostRuntime) -> Result<FeedRun, Fail>
-    ensures { IfOk result (λ run. IsLive run.live) }
+    ensures { IfOk result (λ run. IsEngine run.engine) }
 {
     let mut words = env::args(rt)?.skip(1);
     let path = words.next().ok_or("no query")?;
     let text = fs::read_to_string(rt, path.as_str())?;
-    let fuse = is_fused(words.next());
-    let every = number_of(words.next())?;
-    FeedRun::new(rt.alloc(), text, fuse, every)
+    let way = way_of(rt, words.next(), words.next(), words.next())?;
+    FeedRun::new(rt.alloc(), text, way)
 }
 
-// Whether code is fused, by the option if there is one.
-fn is_fused(option: Option<String>) -> bool {
-    match option {
-        Some(option) => option.as_str() != "--plain",
-        None => true,
+// The way that the arguments after the query ask for.
+fn way_of(
+    rt: &HostRuntime,
+    option: Option<String>,
+    value: Option<String>,
+    last: Option<String>,
+) -> Result<Way, Fail> {
+    let mut way = Way {
+        fuse: !is_plain(&option) && !is_plain(&last),
+        every: None,
+        checkpoint: None,
+    };
+    if let Some(value) = value {
+        match option {
+            Some(word) if word.as_str() == "--after" => {
+                way.checkpoint = Some(fs::read_to_string(rt, value.as_str())?);
+            }
+            _ => way.every = Some(value.as_str().parse()?),
+        }
     }
+    Ok(way)
 }
 
-// The number that an argument is, if there is one.
-fn number_of(word: Option<String>) -> Result<Option<u64>, Fail> {
+// Whether code isn't fused, by this word if it is there.
+fn is_plain(word: &Option<String>) -> bool {
     match word {
-        Some(word) => Ok(Some(word.as_str().parse()?)),
-        None => Ok(None),
+        Some(word) => word.as_str() == "--plain",
+        None => false,
     }
 }
 
 impl FeedRun {
     // A run before its first feed has begun.
-    fn new(alloc: Global, text: String, fuse: bool, every: Option<u64>) -> Result<FeedRun, Fail>
-        ensures { IfOk result (λ run. IsLive run.live) }
+    fn new(alloc: Global, text: String, way: Way) -> Result<FeedRun, Fail>
+        ensures { IfOk result (λ run. IsEngine run.engine) }
     {
         let core = core_of(alloc, text.as_str())?;
-        let live = live_of(alloc, text.as_str(), fuse)?;
-        let resuming = Resuming::new(alloc, core.inputs().len(), every, fuse)?;
+        let engine = engine_of(alloc, text.as_str(), &way)?;
+        let resuming = Resuming::new(alloc, core.inputs().len(), way.every, way.fuse)?;
         Ok(FeedRun {
             alloc,
             text,
-            fuse,
-            every,
+            way,
             core,
             lines: LineReader::new(alloc),
-            live,
+            engine,
             resuming,
         })
     }
 
     // Starts another feed.
     fn start_again(&mut self) -> Result<(), Fail>
-        requires { IsLive self.old.live }
-        ensures { IsLive self.new.live }
+        requires { IsEngine self.old.engine }
+        ensures { IsEngine self.new.engine }
     {
         let inputs = self.core.inputs().len();
-        self.resuming = Resuming::new(self.alloc, inputs, self.every, self.fuse)?;
-        self.live = live_of(self.alloc, self.text.as_str(), self.fuse)?;
+        self.resuming = Resuming::new(self.alloc, inputs, self.way.every, self.way.fuse)?;
+        self.engine = engine_of(self.alloc, self.text.as_str(), &self.way)?;
         Ok(())
     }
 
     // Takes a line, and prints what comes out. An empty line starts another feed.
     fn take_line<W: Write>(&mut self, line: &[u8], out: &mut W) -> Result<(), Fail>
-        requires { IsLive self.old.live }
-        ensures { IsLive self.new.live }
+        requires { IsEngine self.old.engine }
+        ensures { IsEngine self.new.engine }
     {
         if line.is_empty() {
             return self.start_again();
@@ -120,22 +146,34 @@ impl FeedRun {
     // Takes what a line says, and prints what comes out. If a rule is broken, the engine stays: what the events before that one have made
     // final is returned after a later line.
     fn take_said<W: Write>(&mut self, said: Line, out: &mut W) -> Result<(), Fail>
-        requires { IsLive self.old.live }
-        ensures { IsLive self.new.live }
+        requires { IsEngine self.old.engine }
+        ensures { IsEngine self.new.engine }
     {
         let fault = self.take(said)?;
-        print(&mut self.live, fault, out)?;
+        print(&mut self.engine, fault, out)?;
         if fault.is_some() {
             return Ok(());
         }
-        self.resuming
-            .count_line(self.alloc, self.text.as_str(), &mut self.live)
+        self.count_line()
+    }
+
+    // Counts a line after which all that may be printed was returned. Another live engine goes on if it is time.
+    fn count_line(&mut self) -> Result<(), Fail>
+        requires { IsEngine self.old.engine }
+        ensures { IsEngine self.new.engine }
+    {
+        match &mut self.engine {
+            Engine::Live(live) => self
+                .resuming
+                .count_line(self.alloc, self.text.as_str(), live),
+            Engine::Session(_) => Ok(()),
+        }
     }
 
     // Takes what a line says, and returns the rule that it breaks.
     fn take(&mut self, said: Line) -> Result<Option<EventFault>, Fail>
-        requires { IsLive self.old.live }
-        ensures { IsLive self.new.live }
+        requires { IsEngine self.old.engine }
+        ensures { IsEngine self.new.engine }
     {
         match said {
             Line::Update { input, update } => self.take_event(Event::Input { input, update }),
@@ -146,8 +184,8 @@ impl FeedRun {
 
     // Takes an update for all inputs, up to the first that it breaks a rule for.
     fn take_for_all(&mut self, update: Update) -> Result<Option<EventFault>, Fail>
-        requires { IsLive self.old.live }
-        ensures { IsLive self.new.live }
+        requires { IsEngine self.old.engine }
+        ensures { IsEngine self.new.engine }
     {
         if self.core.inputs().len() > 1000 {
             return Err("too many inputs".into());
@@ -163,10 +201,10 @@ impl FeedRun {
 
     // Takes an event, and returns the rule that it breaks.
     fn take_event(&mut self, event: Event) -> Result<Option<EventFault>, Fail>
-        requires { IsLive self.old.live }
-        ensures { IsLive self.new.live }
+        requires { IsEngine self.old.engine }
+        ensures { IsEngine self.new.engine }
     {
-        match self.live.take(event) {
+        match self.engine.take(event) {
             Ok(()) => {
                 self.resuming.take(event)?;
                 Ok(None)
@@ -174,6 +212,16 @@ impl FeedRun {
             Err(TakeError::Fault(fault)) => Ok(Some(fault)),
             Err(TakeError::OutOfMemory) => Err("out of memory".into()),
         }
+    }
+}
+
+// The engine of a query.
+fn engine_of(alloc: Global, text: &str, way: &Way) -> Result<Engine, Fail>
+    ensures { IfOk result (λ engine. IsEngine engine) }
+{
+    match &way.checkpoint {
+        Some(checkpoint) => Ok(Engine::Session(session_of(alloc, checkpoint, way.fuse)?)),
+        None => Ok(Engine::Live(live_of(alloc, text, way.fuse)?)),
     }
 }
 
@@ -186,17 +234,26 @@ fn live_of(alloc: Global, text: &str, fuse: bool) -> Result<Live, Fail>
     Ok(Live::new(alloc, accepted)?)
 }
 
+// The engine that goes on from a checkpoint of sessions.
+fn session_of(alloc: Global, checkpoint: &str, fuse: bool) -> Result<LiveSession, Fail>
+    ensures { IfOk result (λ session. IsLiveSession session) }
+{
+    let decoded = decode(alloc, checkpoint.as_bytes())?;
+    let accepted = accept(alloc, decoded.core, fuse)?;
+    Ok(LiveSession::resume(alloc, decoded.checkpoint, accepted)?)
+}
+
 // Prints a rule that is broken, or what is final by now and what has begun.
-fn print<W: Write>(live: &mut Live, fault: Option<EventFault>, out: &mut W) -> Result<(), Fail>
-    requires { IsLive live.old }
-    ensures { IsLive live.new }
+fn print<W: Write>(engine: &mut Engine, fault: Option<EventFault>, out: &mut W) -> Result<(), Fail>
+    requires { IsEngine engine.old }
+    ensures { IsEngine engine.new }
 {
     if let Some(fault) = fault {
         writeln!(out, "!{fault}")?;
         return Ok(());
     }
-    print_final(live, out)?;
-    if let Some((start, value)) = live.begun()? {
+    print_final(engine, out)?;
+    if let Some((start, value)) = engine.begun()? {
         write!(out, "{start},,")?;
         print_cell(value, out)?;
     }
@@ -204,12 +261,12 @@ fn print<W: Write>(live: &mut Live, fault: Option<EventFault>, out: &mut W) -> R
 }
 
 // Prints the snapshots that are final by now and weren't printed.
-fn print_final<W: Write>(live: &mut Live, out: &mut W) -> Result<(), Fail>
-    requires { IsLive live.old }
-    ensures { IsLive live.new }
+fn print_final<W: Write>(engine: &mut Engine, out: &mut W) -> Result<(), Fail>
+    requires { IsEngine engine.old }
+    ensures { IsEngine engine.new }
 {
     for _ in 0..u64::MAX {
-        let Some(snap) = live.next()? else {
+        let Some(snap) = engine.next()? else {
             return Ok(());
         };
         write!(out, "{},{},", snap.start, snap.end)?;

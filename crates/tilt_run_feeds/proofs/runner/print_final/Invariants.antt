@@ -1,5 +1,5 @@
-use Rattle.tilt_live.specs.Lives.{IsLive}
+use Rattle.tilt_run_feeds.specs.Engines.{IsEngine}
 use Rattle.tilt_run_feeds.proofs.runner.print_final.Given as goal
 
 abbrev pub invariant-loop : goal.invariant-loop
-invariant-loop g l = IsLive l.live
+invariant-loop g l = IsEngine l.engine
