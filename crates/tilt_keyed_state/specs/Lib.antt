@@ -1,0 +1,4 @@
+pub mod Faults
+pub mod Natural
+pub mod Spelling
+pub mod State
