@@ -4,3 +4,5 @@ pub mod Indexes
 pub mod More
 pub mod Outcomes
 pub mod Places
+pub mod Puttings
+pub mod Resumings

@@ -1,3 +1,5 @@
 pub mod Halts
 pub mod Output
+pub mod Resumed
 pub mod Runs
+pub mod States

@@ -30,7 +30,7 @@ pub struct KeyedRun<R> {
     // The same keys in the same order.
     pub(crate) places: KeyIndex,
     // Room for what a run writes, and for what is written for a line.
-    room: Vec<u8>,
+    pub(crate) room: Vec<u8>,
     output: Vec<u8>,
 }
 
@@ -201,7 +201,10 @@ impl<R: KeyRun + Drop> KeyedRun<R> {
 }
 
 // Adds a key behind the others.
-fn push_key<R: Drop>(keys: &mut Vec<OneKey<R>>, one: OneKey<R>) -> Result<(), OutOfMemory>
+pub(crate) fn push_key<R: Drop>(
+    keys: &mut Vec<OneKey<R>>,
+    one: OneKey<R>,
+) -> Result<(), OutOfMemory>
     ensures { OnOk result (keys.new.items ≡ keys.old.items ++ one ∷ []) }
 {
     keys.push(one)?;
