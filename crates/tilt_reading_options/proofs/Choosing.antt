@@ -1,5 +1,5 @@
 -- The choice, or the first option that is bad, after those that aren't.
-use Rattle.std.proofs.Common.{◌≡◌, Ok, Err, refl}
+use Rattle.std.proofs.Common.{◌≡◌, Option, Ok, Err, refl}
 use Rattle.tilt_input_scales.specs.Scales.{ScalesValue}
 use Rattle.tilt_reading_options.specs.Choice.{choice_said, chosen, conventions_said, marks_said, scales_said, tick_rules_said}
 use Rattle.tilt_reading_options.specs.Choice.{times_said, titles_said}
@@ -7,6 +7,8 @@ use Rattle.tilt_reading_options.specs.Conventions.{ConventionsValue}
 use Rattle.tilt_reading_options.specs.Results.{IsChoice, Says}
 use Rattle.tilt_reading_options.specs.Texts.{TextsValue}
 use Rattle.tilt_reading_lines.specs.Titles.{TitlesValue, titles_of}
+use Rattle.tilt_reading_options.specs.Values.{ZoneChoiceValue}
+use Rattle.tilt_reading_options.specs.ZoneChoice.{zone_said}
 use Rattle.tilt_reading_options.specs.declared.fault.ChoiceFault.{ChoiceFault}
 use Rattle.tilt_reading_options.specs.declared.fault.ChoiceFault.TheVariants.{Bad, OutOfMemory}
 use Rattle.tilt_reading_options.specs.declared.parts.Marks.{Marks}
@@ -42,6 +44,12 @@ module _ (texts : TextsValue) where
             pub bad_marks : (option : ReadingOption) → Err option ≡ marks_said texts → choice_said texts ≡ Err option
             bad_marks option e = rw (a, ← b, c, d, ← r, ← e) refl
 
-            pub all_said : (marks : Marks) → Ok marks ≡ marks_said texts
-                → choice_said texts ≡ Ok (chosen texts titles times scales conventions rules marks)
-            all_said marks e = rw (a, ← b, c, d, ← r, ← e) refl
+            module _ (marks : Marks) (m : Ok marks ≡ marks_said texts) where
+              pub bad_zone : (fault : ChoiceFault)
+                  → Says {A = Option ZoneChoiceValue} (λ zone. zone) (Err fault) (zone_said texts.unit texts.zone texts.fold) → IsChoice (Err fault) (choice_said texts)
+              bad_zone (Bad option) e = rw (a, ← b, c, d, ← r, ← m, e) refl
+              bad_zone OutOfMemory e = tt
+
+              pub all_said : (local : Option ZoneChoiceValue) → zone_said texts.unit texts.zone texts.fold ≡ Ok local
+                  → choice_said texts ≡ Ok (chosen texts titles times scales conventions rules marks local)
+              all_said local e = rw (a, ← b, c, d, ← r, ← m, e) refl

@@ -13,8 +13,9 @@ use Rattle.tilt_reading_options.specs.Scales.{scales_read}
 use Rattle.tilt_reading_options.specs.Texts.{TextsValue, parts_of}
 use Rattle.tilt_reading_lines.specs.Titles.TitlesValue.{Named, OfInputs}
 use Rattle.tilt_reading_lines.specs.Titles.{TitlesValue}
-use Rattle.tilt_reading_options.specs.Values.{ChoiceValue}
+use Rattle.tilt_reading_options.specs.Values.{ChoiceValue, ZoneChoiceValue}
 use Rattle.tilt_reading_options.specs.Words.{closed_named, delimiter_named, mark_named, ties_named, unit_named}
+use Rattle.tilt_reading_options.specs.ZoneChoice.{zone_said}
 use Rattle.tilt_reading_options.specs.declared.parts.Marks.{Marks}
 use Rattle.tilt_reading_options.specs.declared.parts.TickRules.{TickRules}
 use Rattle.tilt_reading_options.specs.declared.parts.Times.{Times}
@@ -119,8 +120,9 @@ marks_said texts = do
   Ok (record { delimiter = delimiter; mark = mark })
 
 -- the choice that they make together
-abbrev pub chosen : TextsValue → TitlesValue → Times → ScalesValue → ConventionsValue → TickRules → Marks → ChoiceValue
-chosen texts titles times scales conventions rules marks = record {
+abbrev pub chosen : TextsValue → TitlesValue → Times → ScalesValue → ConventionsValue → TickRules → Marks → Option ZoneChoiceValue
+    → ChoiceValue
+chosen texts titles times scales conventions rules marks zone = record {
   titles = titles;
   moments = times.moments;
   clock = record { origin = times.origin; length = times.tick; closed = rules.closed };
@@ -131,6 +133,7 @@ chosen texts titles times scales conventions rules marks = record {
   skips_empty = texts.skips_empty;
   delimiter = marks.delimiter;
   mark = marks.mark;
+  zone = zone;
 }
 
 -- what the texts say
@@ -142,4 +145,5 @@ choice_said texts = do
   conventions ← conventions_said times.tick texts
   rules ← tick_rules_said texts
   marks ← marks_said texts
-  Ok (chosen texts titles times scales conventions rules marks)
+  zone ← zone_said texts.unit texts.zone texts.fold
+  Ok (chosen texts titles times scales conventions rules marks zone)

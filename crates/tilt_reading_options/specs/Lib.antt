@@ -9,3 +9,4 @@ pub mod Scales
 pub mod Texts
 pub mod Values
 pub mod Words
+pub mod ZoneChoice

@@ -15,6 +15,8 @@ pub record TextsValue : Type 0 where
   pub tick : Option (List ℕ)
   pub origin : Option (List ℕ)
   pub unit : Option (List ℕ)
+  pub zone : Option (List ℕ)
+  pub fold : Option (List ℕ)
   pub scale : Option (List ℕ)
   pub event : Bool
   pub events : Option (List ℕ)

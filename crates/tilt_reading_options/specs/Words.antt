@@ -7,6 +7,8 @@ use Rattle.tilt_readings.specs.declared.epoch.Unit.{Unit as Units}
 use Rattle.tilt_readings.specs.declared.epoch.Unit.TheVariants as unit
 use Rattle.tilt_readings.specs.declared.tick.Closed.{Closed}
 use Rattle.tilt_readings.specs.declared.tick.Closed.TheVariants as closed
+use Rattle.tilt_zones.specs.declared.moments.Fold.{Fold}
+use Rattle.tilt_zones.specs.declared.moments.Fold.TheVariants as fold
 
 -- what a number since 1970 counts
 abbrev pub unit_named : List ℕ → Option Units
@@ -31,6 +33,13 @@ ties_named text =
     else if bytes_eq text (codes "last") then Some ties.Last
     else if bytes_eq text (codes "spread") then Some ties.Spread
     else if bytes_eq text (codes "refuse") then Some ties.Refuse
+    else None
+
+-- which moment a local time means that clocks skip or show twice
+abbrev pub fold_named : List ℕ → Option Fold
+fold_named text =
+    if bytes_eq text (codes "first") then Some fold.First
+    else if bytes_eq text (codes "second") then Some fold.Second
     else None
 
 -- a byte of ASCII that can be between fields: no quote and no end of a line

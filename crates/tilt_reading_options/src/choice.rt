@@ -4,12 +4,13 @@ ghost use Rattle.tilt_reading_options.specs.Results.{IsChoice};
 
 use crate::conventions::Conventions;
 use crate::fault::{ChoiceFault, FormFault};
-use crate::form::{check_inputs, copy_titles, make_options, make_sources, split_nulls};
+use crate::form::{check_inputs, copy_titles, make_local, make_options, make_sources, split_nulls};
 use crate::parts::{
     copy_nulls, read_conventions, read_marks, read_scales_of, read_tick_rules, read_times,
-    read_titles, skips_empty,
+    read_titles, read_zone_of, skips_empty,
 };
 use crate::texts::ReadingTexts;
+use crate::zone_choice::ZoneChoice;
 use std::alloc::Global;
 use std::marker::Model;
 use tilt_conventions::{Options, Ties};
@@ -18,6 +19,7 @@ use tilt_lexer::Name;
 use tilt_reading_lines::{Moments, Rules, Titles};
 use tilt_reading_text::ReadingForm;
 use tilt_readings::Clock;
+use tilt_zones::Zone;
 
 /// How readings are written, and what they mean, before the inputs are known. A clause sees it as plain data.
 #[derive(Drop)]
@@ -32,6 +34,7 @@ pub struct ReadingChoice {
     skips_empty: bool,
     delimiter: u8,
     mark: u8,
+    zone: Option<ZoneChoice>,
 }
 
 impl Model for ReadingChoice {
@@ -54,6 +57,7 @@ impl Model for ReadingChoice {
       skips_empty = c.skips_empty;
       delimiter = c.delimiter;
       mark = c.mark;
+      zone = c.zone;
     } };
 
     ghost invariant = { λ c. 0 < c.clock.length };
@@ -77,6 +81,7 @@ fn choose(alloc: Global, texts: &ReadingTexts) -> Result<ReadingChoice, ChoiceFa
     let conventions = read_conventions(alloc, texts, times.tick)?;
     let rules = read_tick_rules(texts)?;
     let marks = read_marks(texts)?;
+    let zone = read_zone_of(alloc, texts)?;
     let nulls = copy_nulls(alloc, texts)?;
     Ok(ReadingChoice {
         titles,
@@ -93,6 +98,7 @@ fn choose(alloc: Global, texts: &ReadingTexts) -> Result<ReadingChoice, ChoiceFa
         skips_empty: skips_empty(texts),
         delimiter: marks.delimiter,
         mark: marks.mark,
+        zone,
     })
 }
 
@@ -116,17 +122,26 @@ impl ReadingChoice {
         &self.scales
     }
 
+    /// The zone of local times, if there is one.
+    pub fn zone(&self) -> &Option<ZoneChoice>
+        ensures { result.now ≡ self.now.zone }
+    {
+        &self.zone
+    }
+
     /// The form of the lines and the options of each input, for inputs with these names in their order. They are as `ReadingText::new`
-    /// takes them. `NoInput` has the first name in the texts of options that is no input: in the scales, then in the ages, then in the
-    /// events. `OutOfMemory` comes if memory runs out, and for no other reason.
+    /// takes them. The table says what clocks of the zone show. Without a zone, or without a table, a time without an offset is none.
+    /// `NoInput` has the first name in the texts of options that is no input: in the scales, then in the ages, then in the events.
+    /// `OutOfMemory` comes if memory runs out, and for no other reason.
     pub fn form(
         &self,
         alloc: Global,
+        table: &Option<Zone>,
         inputs: &[Name],
     ) -> Result<(ReadingForm, Vec<Options>), FormFault>
         requires { length inputs.now < 2 ^ 32 }
         ensures missing { IsMissing result (missing_input self.now inputs.now) }
-        ensures form { IfOk result (λ made. made.0 ≡ form_for self.now inputs.now) }
+        ensures form { IfOk result (λ made. made.0 ≡ form_for self.now table.now inputs.now) }
         ensures options { IfOk result (λ made. made.1.items ≡ options_for self.now inputs.now) }
         ensures sources { IfOk result (λ made. length made.0.sources < 2 ^ 32) }
         ensures few { IfOk result (λ made. length made.1.items < 2 ^ 32) }
@@ -136,9 +151,10 @@ impl ReadingChoice {
         let sources = make_sources(alloc, &self.scales, inputs)?;
         let titles = copy_titles(&self.titles)?;
         let nulls = split_nulls(alloc, &self.nulls)?;
+        let local = make_local(alloc, &self.zone, table)?;
         let rules = Rules::new(
             self.moments,
-            None,
+            local,
             self.clock,
             self.mark,
             nulls,

@@ -4,7 +4,7 @@ ghost use Rattle.std.specs.Option.{option_or};
 ghost use Rattle.tilt_reading_feed.specs.Laws.{HoldTicks};
 ghost use Rattle.tilt_reading_options.specs.Choice.{nulls_said};
 ghost use Rattle.tilt_reading_options.specs.Conventions.{convention_name};
-ghost use Rattle.tilt_reading_options.specs.Form.{options_with};
+ghost use Rattle.tilt_reading_options.specs.Form.{local_for, options_with};
 ghost use Rattle.tilt_reading_options.specs.Parts.{first_missing};
 ghost use Rattle.tilt_reading_options.specs.Results.{IsMissing};
 ghost use Rattle.tilt_reading_options.specs.Scales.{input_with, missing_among};
@@ -15,11 +15,13 @@ ghost use Rattle.tilt_reading_lines.specs.Titles.{titles_of};
 use crate::conventions::Conventions;
 use crate::fault::FormFault;
 use crate::named::check_all;
+use crate::zone_choice::ZoneChoice;
 use std::alloc::{AllocError as OutOfMemory, Global};
 use tilt_conventions::{Options, Ties};
 use tilt_input_scales::{InputScale, Scales};
 use tilt_lexer::Name;
-use tilt_reading_lines::{Source, Titles};
+use tilt_reading_lines::{LocalRules, Source, Titles};
+use tilt_zones::Zone;
 
 /// Fails at the first name of a scale that is no input: `NoInput` has it. `OutOfMemory` comes if memory runs out, and for no other reason.
 pub fn check_names(named: &[InputScale], inputs: &[Name]) -> Result<(), FormFault>
@@ -111,6 +113,23 @@ fn push_part(alloc: Global, part: &str, parts: &mut Vec<Vec<u8>>) -> Result<(), 
 {
     parts.push(part.as_bytes().to_vec(alloc)?)?;
     Ok(())
+}
+
+// The rules for local times, by a zone whose table is there.
+pub(crate) fn make_local(
+    alloc: Global,
+    zone: &Option<ZoneChoice>,
+    table: &Option<Zone>,
+) -> Result<Option<LocalRules>, OutOfMemory>
+    ensures { IfOk result (λ local. local ≡ local_for zone.now table.now) }
+{
+    match (zone, table) {
+        (Some(zone), Some(table)) => {
+            let name = zone.name().as_bytes().to_vec(alloc)?;
+            Ok(Some(LocalRules::new(table.copy(alloc)?, zone.fold(), name)))
+        }
+        _ => Ok(None),
+    }
 }
 
 // The same titles.

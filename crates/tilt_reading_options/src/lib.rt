@@ -24,6 +24,7 @@ mod reading_option;
 mod texts;
 mod whole;
 mod words;
+mod zone_choice;
 
 pub use choice::{ReadingChoice, read_choice};
 pub use fault::{ChoiceFault, FormFault};
@@ -33,3 +34,4 @@ pub use part_reader::{PartReader, cut_name, cut_text, take_parts};
 pub use reading_option::ReadingOption;
 pub use texts::ReadingTexts;
 pub use whole::read_whole;
+pub use zone_choice::ZoneChoice;

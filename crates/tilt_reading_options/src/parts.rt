@@ -4,6 +4,7 @@ ghost use Rattle.tilt_reading_options.specs.Choice.{conventions_said, marks_said
 ghost use Rattle.tilt_reading_options.specs.Choice.{titles_said};
 ghost use Rattle.tilt_reading_options.specs.Results.{Says};
 ghost use Rattle.tilt_reading_options.specs.Texts.{given};
+ghost use Rattle.tilt_reading_options.specs.ZoneChoice.{zone_said};
 ghost use Rattle.tilt_reading_lines.specs.Titles.{titles_of};
 
 use crate::conventions::Conventions;
@@ -14,6 +15,7 @@ use crate::given::{
 };
 use crate::reading_option::ReadingOption;
 use crate::texts::ReadingTexts;
+use crate::zone_choice::{ZoneChoice, read_zone_choice};
 use std::alloc::{AllocError as OutOfMemory, Global};
 use tilt_conventions::Ties;
 use tilt_input_scales::Scales;
@@ -100,6 +102,16 @@ pub(crate) fn read_marks(texts: &ReadingTexts) -> Result<Marks, ReadingOption>
     let delimiter = read_delimiter(&texts.delimiter)?;
     let mark = read_mark(delimiter, &texts.decimal)?;
     Ok(Marks { delimiter, mark })
+}
+
+// The zone of local times, if there is one.
+pub(crate) fn read_zone_of(
+    alloc: Global,
+    texts: &ReadingTexts,
+) -> Result<Option<ZoneChoice>, ChoiceFault>
+    ensures { Says (λ zone. zone) result (zone_said texts.now.unit texts.now.zone texts.now.fold) }
+{
+    read_zone_choice(alloc, &texts.unit, &texts.zone, &texts.fold)
 }
 
 // The text of the texts without a value.

@@ -25,4 +25,8 @@ pub enum ReadingOption {
     Delimiter,
     /// `--decimal`
     Decimal,
+    /// `--zone`
+    Zone,
+    /// `--fold`, which is bad without `--zone`.
+    Fold,
 }

@@ -16,6 +16,10 @@ pub struct ReadingTexts {
     pub origin: Option<String>,
     /// `--unit`: what a number since 1970 counts.
     pub unit: Option<String>,
+    /// `--zone`: the name of the zone whose clocks show times without an offset. It can't be given beside `--unit`.
+    pub zone: Option<String>,
+    /// `--fold`: which moment a local time means that clocks skip or show twice.
+    pub fold: Option<String>,
     /// `--scale`: by what values are multiplied.
     pub scale: Option<String>,
     /// `--event`: whether the readings of all inputs hold on their own tick alone.
@@ -52,6 +56,8 @@ impl Model for ReadingTexts {
       tick = given t.tick;
       origin = given t.origin;
       unit = given t.unit;
+      zone = given t.zone;
+      fold = given t.fold;
       scale = given t.scale;
       event = t.event;
       events = given t.events;

@@ -1,9 +1,11 @@
 // The options whose texts are one of a few, and the bytes between and in fields.
 ghost use Rattle.std.specs.Prelude.{◌≡◌};
-ghost use Rattle.tilt_reading_options.specs.Words.{closed_named, delimiter_named, mark_named, only_byte, separates, ties_named, unit_named};
+ghost use Rattle.tilt_reading_options.specs.Words.{closed_named, delimiter_named, fold_named, mark_named, only_byte, separates};
+ghost use Rattle.tilt_reading_options.specs.Words.{ties_named, unit_named};
 
 use tilt_conventions::Ties;
 use tilt_readings::{Closed, Unit};
+use tilt_zones::Fold;
 
 // What a number since 1970 counts.
 pub(crate) fn find_unit(text: &[u8]) -> Option<Unit>
@@ -44,6 +46,19 @@ pub(crate) fn find_ties(text: &[u8]) -> Option<Ties>
     } else {
         None
     }
+}
+
+// Which moment a local time means that clocks skip or show twice.
+pub(crate) fn find_fold(text: &[u8]) -> Option<Fold>
+    ensures { result ≡ fold_named text.now }
+{
+    if text == b"first".as_slice() {
+        return Some(Fold::First);
+    }
+    if text == b"second".as_slice() {
+        return Some(Fold::Second);
+    }
+    None
 }
 
 // The byte between fields.

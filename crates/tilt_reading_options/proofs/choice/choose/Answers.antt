@@ -2,7 +2,7 @@ use Rattle.std.proofs.Common.{rules, FitsSigned}
 use Rattle.std.proofs.lemmas.Int.{to_z-of_z}
 use Rattle.std.proofs.lemmas.Result.{err_from_is_err_and}
 use Rattle.std.specs.Int.{w128}
-use Rattle.tilt_reading_options.proofs.Choosing.{all_said, bad_conventions, bad_marks, bad_rules, bad_scales, bad_times}
+use Rattle.tilt_reading_options.proofs.Choosing.{all_said, bad_conventions, bad_marks, bad_rules, bad_scales, bad_times, bad_zone}
 use Rattle.tilt_reading_options.proofs.choice.choose.Goals as goal
 
 pub returns-in_err-times : goal.returns-in_err-times
@@ -32,9 +32,15 @@ returns-in_err-marks c =
     rw (p.1, p.2) (bad_marks c.args.texts.now _ c.in_ok-titles.ensures _ c.in_ok-times.ensures.value _ c.in_ok-scales.ensures
     _ c.in_ok-conventions.ensures _ c.in_ok-rules.ensures _ c.in_err-marks.ensures)
 
+pub returns-in_err-zone : goal.returns-in_err-zone
+returns-in_err-zone c =
+    let p = err_from_is_err_and c.from_residual-in_err-zone.result c.from_residual-in_err-zone.ensures.1 in
+    rw (p.1, p.2) (bad_zone c.args.texts.now _ c.in_ok-titles.ensures _ c.in_ok-times.ensures.value _ c.in_ok-scales.ensures
+    _ c.in_ok-conventions.ensures _ c.in_ok-rules.ensures _ c.in_ok-marks.ensures _ c.in_err-zone.ensures)
+
 pub returns : goal.returns
 returns c =
     let said = all_said c.args.texts.now _ c.in_ok-titles.ensures _ c.in_ok-times.ensures.value _ c.in_ok-scales.ensures
-    _ c.in_ok-conventions.ensures _ c.in_ok-rules.ensures _ c.in_ok-marks.ensures in
+    _ c.in_ok-conventions.ensures _ c.in_ok-rules.ensures _ c.in_ok-marks.ensures _ c.in_ok-zone.ensures in
     let fits : FitsSigned w128 c.in_ok-times.times.origin = search rules in
     rw (to_z-of_z w128 c.in_ok-times.times.origin fits, c.in_ok-nulls.ensures, c.skips_empty.ensures) said
