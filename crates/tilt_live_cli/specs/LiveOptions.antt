@@ -28,6 +28,8 @@ live_options =
     ∷ record { word = codes "--tick"; shape = Text }
     ∷ record { word = codes "--origin"; shape = Text }
     ∷ record { word = codes "--unit"; shape = Text }
+    ∷ record { word = codes "--zone"; shape = Text }
+    ∷ record { word = codes "--fold"; shape = Text }
     ∷ record { word = codes "--scale"; shape = Text }
     ∷ record { word = codes "--event"; shape = Flag }
     ∷ record { word = codes "--events"; shape = Text }
@@ -52,8 +54,8 @@ row_options = codes "--lateness" ∷ codes "--idle" ∷ codes "--ahead" ∷ []
 -- those that only a feed of readings has, in addition to the column of its times
 abbrev pub reading_options : List (List ℕ)
 reading_options =
-    codes "--name" ∷ codes "--value" ∷ codes "--tick" ∷ codes "--origin" ∷ codes "--unit" ∷ codes "--event" ∷ codes "--events"
-    ∷ codes "--max-age" ∷ codes "--closed" ∷ codes "--ties" ∷ codes "--null" ∷ codes "--skip-empty" ∷ codes "--delimiter" ∷ codes "--decimal"
+    codes "--name" ∷ codes "--value" ∷ codes "--tick" ∷ codes "--origin" ∷ codes "--unit" ∷ codes "--zone" ∷ codes "--fold"
+    ∷ codes "--event" ∷ codes "--events" ∷ codes "--max-age" ∷ codes "--closed" ∷ codes "--ties" ∷ codes "--null" ∷ codes "--skip-empty" ∷ codes "--delimiter" ∷ codes "--decimal"
     ∷ codes "--times" ∷ []
 
 -- those that a feed with keys doesn't have: its runs have no states, and its lines are rows

@@ -23,6 +23,8 @@ texts_with settings time = record {
   tick = text_at (codes "--tick") settings;
   origin = text_at (codes "--origin") settings;
   unit = text_at (codes "--unit") settings;
+  zone = text_at (codes "--zone") settings;
+  fold = text_at (codes "--fold") settings;
   scale = text_at (codes "--scale") settings;
   event = is_set (codes "--event") settings;
   events = text_at (codes "--events") settings;
@@ -71,7 +73,7 @@ abbrev pub column_options : List (List ℕ)
 column_options = codes "--name" ∷ codes "--value" ∷ []
 
 abbrev pub moment_options : List (List ℕ)
-moment_options = codes "--tick" ∷ codes "--origin" ∷ codes "--unit" ∷ []
+moment_options = codes "--tick" ∷ codes "--origin" ∷ codes "--unit" ∷ codes "--zone" ∷ codes "--fold" ∷ []
 
 abbrev pub meaning_options : List (List ℕ)
 meaning_options = codes "--scale" ∷ codes "--events" ∷ codes "--max-age" ∷ codes "--closed" ∷ codes "--ties" ∷ []

@@ -12,7 +12,7 @@ use std::alloc::Global;
 use tilt_cli::{Arguments, OptionRow, Shape, WordsFault};
 
 // All options, each with what it does.
-const LIVE_OPTIONS: [OptionRow; 35] = [
+const LIVE_OPTIONS: [OptionRow; 37] = [
     // prints also what has begun
     OptionRow {
         word: "--begun",
@@ -113,6 +113,16 @@ const LIVE_OPTIONS: [OptionRow; 35] = [
         word: "--unit",
         shape: Shape::Text,
     },
+    // reads times without an offset as local times of this zone, such as `Europe/Berlin`
+    OptionRow {
+        word: "--zone",
+        shape: Shape::Text,
+    },
+    // takes this moment, `first` or `second`, of a local time that clocks skip or show twice
+    OptionRow {
+        word: "--fold",
+        shape: Shape::Text,
+    },
     // multiplies values: by `10`, or by input, as in `a=10,b=100`
     OptionRow {
         word: "--scale",
@@ -194,12 +204,14 @@ const LIVE_OPTIONS: [OptionRow; 35] = [
 const ROW_OPTIONS: [&str; 3] = ["--lateness", "--idle", "--ahead"];
 
 // The options that only a feed of readings has, in addition to the column of its times.
-const READING_OPTIONS: [&str; 15] = [
+const READING_OPTIONS: [&str; 17] = [
     "--name",
     "--value",
     "--tick",
     "--origin",
     "--unit",
+    "--zone",
+    "--fold",
     "--event",
     "--events",
     "--max-age",

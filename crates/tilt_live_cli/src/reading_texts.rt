@@ -31,6 +31,8 @@ struct Moments {
     tick: Option<String>,
     origin: Option<String>,
     unit: Option<String>,
+    zone: Option<String>,
+    fold: Option<String>,
 }
 
 // What readings mean.
@@ -138,6 +140,8 @@ pub(crate) fn take_reading_texts(given: &mut Arguments) -> Option<ReadingTexts>
         tick: moments.tick,
         origin: moments.origin,
         unit: moments.unit,
+        zone: moments.zone,
+        fold: moments.fold,
         scale: meanings.scale,
         event,
         events: meanings.events,
@@ -167,12 +171,22 @@ fn take_moments(given: &mut Arguments) -> Moments
     ensures tick { option_map (λ text. string_bytes text) result.tick ≡ text_at (codes "--tick") (arguments_of given.old).settings }
     ensures origin { option_map (λ text. string_bytes text) result.origin ≡ text_at (codes "--origin") (arguments_of given.old).settings }
     ensures unit { option_map (λ text. string_bytes text) result.unit ≡ text_at (codes "--unit") (arguments_of given.old).settings }
+    ensures zone { option_map (λ text. string_bytes text) result.zone ≡ text_at (codes "--zone") (arguments_of given.old).settings }
+    ensures fold { option_map (λ text. string_bytes text) result.fold ≡ text_at (codes "--fold") (arguments_of given.old).settings }
     ensures others { LeavesAllBut moment_options (arguments_of given.old).settings (arguments_of given.new).settings }
 {
     let tick = given.remove_text("--tick");
     let origin = given.remove_text("--origin");
     let unit = given.remove_text("--unit");
-    Moments { tick, origin, unit }
+    let zone = given.remove_text("--zone");
+    let fold = given.remove_text("--fold");
+    Moments {
+        tick,
+        origin,
+        unit,
+        zone,
+        fold,
+    }
 }
 
 // Takes out what readings mean.

@@ -1,4 +1,4 @@
-use Rattle.std.proofs.Common.{◌≡◌, ◌∙◌, List, ℕ, Err, ap, subst, sym}
+use Rattle.std.proofs.Common.{◌∙◌, List, ℕ, Err, ap, subst, sym}
 use Rattle.std.proofs.lemmas.Result.{err_from_is_err_and}
 use Rattle.tilt_zone_files.proofs.Faults.{same_fault}
 use Rattle.tilt_zone_files.specs.ZoneFile.{HasNoTable}
