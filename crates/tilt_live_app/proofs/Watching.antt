@@ -10,7 +10,7 @@ use Rattle.tilt_live_app.proofs.Living.{names-unbegun}
 use Rattle.tilt_live_app.specs.Asked.{IsMisnamed, missing_named}
 use Rattle.tilt_feed_form.specs.declared.feed_form.FeedForm.{FeedForm}
 use Rattle.tilt_input_scales.specs.Scales.{ScalesValue}
-use Rattle.tilt_live_app.specs.BeginReport.{BeginReport, in_units, no_input, report_of_check, shared}
+use Rattle.tilt_live_app.specs.BeginReport.{BeginReport, in_units, no_input, no_zone, report_of_check, shared}
 use Rattle.tilt_live_app.specs.Begun.{HasTaken, IsUnbegun, no_memory, unknown}
 use Rattle.tilt_live_app.specs.Change.{shelf_change}
 use Rattle.tilt_live_app.specs.Counting.{CountsBy, IsFirst, IsMiscounted, counted, meaning_with}
@@ -93,6 +93,7 @@ module _ {S : Type 0} (tells : Type 0) (files : S → List ℕ → List ℕ) (re
       → IsUnbegun (shelf_change tells files read_faults save_faults old new) command report
   miscounted-unbegun old new query core decimals taken (no_input name) is = unknown query core decimals is.0 is.1 name taken is.2 is.3 is.4
   miscounted-unbegun old new query core decimals taken (in_units fault) none = absurd none
+  miscounted-unbegun old new query core decimals taken (no_zone name) none = absurd none
   miscounted-unbegun old new query core decimals taken (shared report) none = rw none no_memory
 
   pub counts-unbegun : (old new : S) (query : List StatementTree) (core : CoreParts) (decimals : Option ℕ)

@@ -5,7 +5,7 @@ use Rattle.tilt_bounds.specs.declared.fault.ReachFault.TheVariants.{TooFar}
 use Rattle.tilt_core.specs.Core.{CoreParts, IsCore}
 use Rattle.tilt_counting.specs.Counted.{counted_meaning}
 use Rattle.tilt_input_scales.specs.Scales.{ScalesValue}
-use Rattle.tilt_live_app.specs.BeginReport.{BeginReport, in_units, no_input, shared}
+use Rattle.tilt_live_app.specs.BeginReport.{BeginReport, in_units, no_input, no_zone, shared}
 use Rattle.tilt_live_app.specs.declared.begin.Begin.{Begin}
 use Rattle.tilt_live_app.specs.declared.counting.Counting.{Counting}
 use Rattle.tilt_live_app.specs.declared.counting.Counting.TheVariants.{By, Left, Unneeded}
@@ -65,6 +65,7 @@ abbrev pub IsMiscounted : CommandValue → List (List ℕ) → BeginReport → T
 IsMiscounted command inputs (no_input name) = (scales : ScalesValue) × (bounds : List InputBound) × (command.units ≡ Some scales)
     × (command.bounds ≡ Some bounds) × IsUnknown scales bounds inputs name
 IsMiscounted command inputs (in_units fault) = ⊥
+IsMiscounted command inputs (no_zone name) = ⊥
 IsMiscounted command inputs (shared report) = report ≡ out_of_memory
 
 -- if a run is watched, both begin with the first byte of their feed: they go on from no state

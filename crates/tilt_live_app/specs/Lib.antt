@@ -12,3 +12,4 @@ pub mod Keeping
 pub mod Lived
 pub mod Resumed
 pub mod StateFile
+pub mod Zoned

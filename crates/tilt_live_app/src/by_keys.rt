@@ -2,11 +2,13 @@
 ghost use Rattle.std.specs.Prelude.{◌≡◌, ⊤, ℕ, List, Some, codes, true};
 ghost use Rattle.tilt_live_app.specs.ByKeys.{HasDoneByKeys, recipe_for};
 ghost use Rattle.tilt_live_app.specs.Change.{shelf_change};
+ghost use Rattle.tilt_live_app.specs.Zoned.{zone_named};
 ghost use Rattle.tilt_live_cli.specs.Arguments.{command_value};
 ghost use Rattle.tilt_live_keys.specs.Runs.{keyed_meaning};
 ghost use Rattle.tilt_outside.specs.Reads.{OnlyReads};
 ghost use Rattle.tilt_serving.specs.Served.{HasServed, first_byte};
 ghost use Rattle.tilt_serving.specs.Stops.{is_whole};
+ghost use Rattle.tilt_zone_files.specs.ZoneFile.{zone_path};
 
 use crate::counting::report_uncounted;
 use crate::halted::report_halt;
@@ -31,6 +33,7 @@ pub(crate) fn obey_by_keys<S: Shelf, P: Port, E: Sink>(
 ) -> u8
     requires lent { S.lends (command_value command.now).query }
     requires state_lent { (file : List ℕ) → (command_value command.now).resume ≡ Some file → S.lends file }
+    requires table_lent { (zone : List ℕ) → zone_named (command_value command.now).readings ≡ Some zone → S.lends (zone_path zone) }
     requires lines { (n : ℕ) → E.takes err.old n }
     ensures is { HasDoneByKeys (shelf_change S.tells S.files S.read_faults S.save_faults shelf.old shelf.new) P.tells
         (P.transcript port.old) (P.transcript port.new) E.tells E.written E.faults (command_value command.now) most err.old err.new result }

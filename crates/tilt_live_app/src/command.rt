@@ -7,8 +7,10 @@ ghost use Rattle.tilt_live_app.specs.Keeping.{IsSaveFailure};
 ghost use Rattle.tilt_live_app.specs.Done.{HasDone, HasRun, IsSaving};
 ghost use Rattle.tilt_live_app.specs.InFolder.{folder_meaning, folders_change};
 ghost use Rattle.tilt_live_app.specs.Lived.{HasLived};
+ghost use Rattle.tilt_live_app.specs.Zoned.{zone_named};
 ghost use Rattle.tilt_outside.specs.Reads.{OnlyReads};
 ghost use Rattle.tilt_report.specs.Report.{line_of, report_of, status_of};
+ghost use Rattle.tilt_zone_files.specs.ZoneFile.{zone_path};
 
 use crate::by_keys::obey_by_keys;
 use crate::checking::check_query;
@@ -33,7 +35,8 @@ use tilt_store::{Folder, Folders};
 /// number of ticks, are the options of its watermarks. The feed is read from the port until its end, line by line; what each line makes
 /// final is written before more is read.
 ///
-/// With `--time COL` the feed is one of readings, and the options from `--name` on say how they are written and what they mean.
+/// With `--time COL` the feed is one of readings, and the options from `--name` on say how they are written and what they mean. With
+/// `--zone NAME` dates without an offset are local times of this zone, by its file in `/usr/share/zoneinfo`.
 ///
 /// With `--keys` each line of the feed begins with a key, and each key has a run of its own, whose rows come with the key. The run stops at
 /// a line with a new key if there are as many keys as there may be (`--max-keys N`).
@@ -55,10 +58,10 @@ use tilt_store::{Folder, Folders};
 ///
 /// The status of the result is the one that the program exits with:
 /// - 0: the feed ended, and its state was saved if it was to be; or the position was printed; or the check names no definition
-/// - 1: the query, a name in an option, the state, the folder or the feed is rejected, or a line by `--strict`. Or there are too many keys.
-///   Or the check names a definition
+/// - 1: the query, a name in an option, the state, the folder or the feed is rejected, or a line by `--strict`. Or the file of the zone has
+///   no table or can't be read. Or there are too many keys. Or the check names a definition
 /// - 2: the arguments are no command
-/// - 3: a read failed
+/// - 3: another read failed
 /// - 4: a write or a flush failed
 /// - 5: memory ran out
 /// - 6: the feed ended, and the save of its state failed; or a file of the folder couldn't be read or written
@@ -75,6 +78,8 @@ pub fn live<S: Shelf, F: Folder, D: Folders<F>, P: Port, E: Sink>(
     requires lent { (command : CommandValue) → IsLiveCommand (texts words.now) command → S.lends command.query }
     requires state_lent { (command : CommandValue) (file : List ℕ) → IsLiveCommand (texts words.now) command
         → command.resume ≡ Some file → S.lends file }
+    requires table_lent { (command : CommandValue) (zone : List ℕ) → IsLiveCommand (texts words.now) command
+        → zone_named command.readings ≡ Some zone → S.lends (zone_path zone) }
     requires saves { (command : CommandValue) (file : List ℕ) (n : ℕ) → IsLiveCommand (texts words.now) command
         → command.save ≡ Some file → S.takes shelf.old file n }
     requires lines { (n : ℕ) → E.takes err.old n }
@@ -118,6 +123,7 @@ fn obey<S: Shelf, P: Port, E: Sink>(
 ) -> u8
     requires lent { S.lends (command_value command.now).query }
     requires state_lent { (file : List ℕ) → (command_value command.now).resume ≡ Some file → S.lends file }
+    requires table_lent { (zone : List ℕ) → zone_named (command_value command.now).readings ≡ Some zone → S.lends (zone_path zone) }
     requires saves { (file : List ℕ) (n : ℕ) → (command_value command.now).save ≡ Some file → S.takes shelf.old file n }
     requires lines { (n : ℕ) → E.takes err.old n }
     ensures is { HasDone (shelf_change S.tells S.files S.read_faults S.save_faults shelf.old shelf.new) P.tells
@@ -147,6 +153,7 @@ fn run<'a, S: Shelf, P: Port, E: Sink>(
 ) -> Result<(), Failure<'a>>
     requires lent { S.lends (command_value command.now).query }
     requires state_lent { (file : List ℕ) → (command_value command.now).resume ≡ Some file → S.lends file }
+    requires table_lent { (zone : List ℕ) → zone_named (command_value command.now).readings ≡ Some zone → S.lends (zone_path zone) }
     requires saves { (file : List ℕ) (n : ℕ) → (command_value command.now).save ≡ Some file → S.takes shelf.old file n }
     requires lines { (n : ℕ) → E.takes err.old n }
     ensures is { HasRun (shelf_change S.tells S.files S.read_faults S.save_faults shelf.old shelf.new) P.tells

@@ -4,9 +4,11 @@ ghost use Rattle.tilt_live_cli.specs.Arguments.{choice_value, command_value};
 ghost use Rattle.tilt_live_app.specs.Change.{shelf_change};
 ghost use Rattle.tilt_live_app.specs.InFolder.{HasCounted, HasDoneIn, HasPrinted, HasServedIn, IsPrinted, folder_meaning};
 ghost use Rattle.tilt_live_app.specs.InFolder.{folders_change, line_of_served, position_text, status_of_served};
+ghost use Rattle.tilt_live_app.specs.Zoned.{zone_named};
 ghost use Rattle.tilt_serving.specs.Reported.{Reported};
 ghost use Rattle.tilt_outside.specs.Reads.{OnlyReads};
 ghost use Rattle.tilt_store.specs.Crash.{Only};
+ghost use Rattle.tilt_zone_files.specs.ZoneFile.{zone_path};
 
 use crate::counting::report_uncounted;
 use crate::folder_end::{end_of, end_of_entering, report_end, report_fault};
@@ -41,6 +43,7 @@ pub(crate) fn obey_in<S: Shelf, F: Folder, D: Folders<F>, P: Port, E: Sink>(
 ) -> Lived<F>
     requires lent { S.lends (command_value command.now).query }
     requires state_lent { (file : List ℕ) → (command_value command.now).resume ≡ Some file → S.lends file }
+    requires table_lent { (zone : List ℕ) → zone_named (command_value command.now).readings ≡ Some zone → S.lends (zone_path zone) }
     requires chosen { (command_value command.now).folder ≡ Some (choice_value choice.now) }
     requires lines { (n : ℕ) → E.takes err.old n }
     ensures is { HasDoneIn (shelf_change S.tells S.files S.read_faults S.save_faults shelf.old shelf.new) P.tells

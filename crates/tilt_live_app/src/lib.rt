@@ -32,6 +32,7 @@ mod run_options;
 mod serve;
 mod state_file;
 mod unbegun;
+mod zoned;
 
 pub use command::live;
 pub use in_folder::Lived;

@@ -14,18 +14,20 @@ use tilt_live_cli::LiveCommand;
 use tilt_live_run::{Display, RunOptions};
 use tilt_reading_options::{ReadingChoice, check_names};
 use tilt_row_text::{RowStyle, Times};
+use tilt_zones::Zone;
 
-// The options of the run that a command asks for, on a query with these inputs, whose output has these decimals if it is in units. A name
-// in its options that is no input is an error.
+// The options of the run that a command asks for, with the table of its zone, on a query with these inputs. Its output has these decimals
+// if it is in units. A name in its options that is no input is an error.
 pub(crate) fn run_options<'a>(
     alloc: Global,
     command: &LiveCommand<'_>,
+    table: &Option<Zone>,
     inputs: &[Name],
     decimals: Option<u8>,
 ) -> Result<RunOptions, Unbegun<'a>>
     requires { length inputs.now < 2 ^ 32 }
     ensures named { IfOk result (λ _. NamesInputs (command_value command.now) inputs.now) }
-    ensures asked { IfOk result (λ options. options ≡ options_asked (command_value command.now) inputs.now decimals) }
+    ensures asked { IfOk result (λ options. options ≡ options_asked (command_value command.now) table.now inputs.now decimals) }
     ensures fault { IfErr result (λ why. IsMisnamed (missing_named (command_value command.now).readings
         (command_value command.now).units inputs.now) (begin_report why)) }
 {
@@ -39,7 +41,7 @@ pub(crate) fn run_options<'a>(
             },
         });
     };
-    let setup = make_setup(alloc, choice, inputs)?;
+    let setup = make_setup(alloc, choice, table, inputs)?;
     Ok(RunOptions {
         display: with_decimals(
             decimals,
@@ -96,17 +98,18 @@ fn display_for(choice: &ReadingChoice, dated: bool, display: Display) -> Display
     }
 }
 
-// How readings of these inputs are written and what they mean, by a choice.
+// How readings of these inputs are written and what they mean, by a choice and the table of its zone.
 fn make_setup<'a>(
     alloc: Global,
     choice: &ReadingChoice,
+    table: &Option<Zone>,
     inputs: &[Name],
 ) -> Result<ReadingSetup, Unbegun<'a>>
     requires { length inputs.now < 2 ^ 32 }
-    ensures setup { IfOk result (λ setup. setup ≡ setup_for choice.now inputs.now) }
+    ensures setup { IfOk result (λ setup. setup ≡ setup_for choice.now table.now inputs.now) }
     ensures named { IfOk result (λ _. missing_input choice.now inputs.now ≡ None) }
     ensures fault { IfErr result (λ why. IsMisnamed (missing_input choice.now inputs.now) (begin_report why)) }
 {
-    let (form, options) = choice.form(alloc, inputs)?;
+    let (form, options) = choice.form(alloc, table, inputs)?;
     Ok(ReadingSetup::new(form, options))
 }

@@ -21,6 +21,8 @@ pub(crate) enum Unbegun<'a> {
     InUnits(UnitLoadFault<'a>),
     // The option `--scale` or `--bounds` has this name, which is no input of the query.
     NoInput(Name),
+    // The zone of this name has no table, or its file couldn't be read.
+    NoZone(&'a str),
 }
 
 impl<'a> From<Fault<'a>> for Unbegun<'a> {
@@ -89,6 +91,11 @@ pub(crate) fn report_unbegun<E: Sink>(err: &mut E, why: &Unbegun<'_>) -> u8
         Unbegun::NoInput(name) => {
             // A fault of the sink changes nothing.
             let _ = put_line(err, b"tilt: 66 no input ", name.bytes());
+            1
+        }
+        Unbegun::NoZone(name) => {
+            // A fault of the sink changes nothing.
+            let _ = put_line(err, b"tilt: 67 no zone ", name.as_bytes());
             1
         }
     }

@@ -83,6 +83,8 @@ fn first_form(alloc: Global) -> Result<FeedForm, Fail> {
             tick: Some(String::from_str(alloc, "1min")?),
             origin: Some(String::from_str(alloc, "2024-01-01T00:00:00Z")?),
             unit: None,
+            zone: None,
+            fold: None,
             scale: Some(String::from_str(alloc, "10")?),
             event: false,
             events: None,
@@ -108,6 +110,8 @@ fn second_form(alloc: Global) -> Result<FeedForm, Fail> {
             tick: Some(String::from_str(alloc, "1ms")?),
             origin: Some(String::from_str(alloc, "1970-01-01T00:00:00Z")?),
             unit: Some(String::from_str(alloc, "ms")?),
+            zone: None,
+            fold: None,
             scale: None,
             event: true,
             events: None,
@@ -131,7 +135,7 @@ fn form_of(alloc: Global, texts: ReadingTexts) -> Result<FeedForm, Fail> {
         Ok(choice) => choice,
         Err(_fault) => return Err(Fail::from("bad options")),
     };
-    match choice.form(alloc, &inputs) {
+    match choice.form(alloc, &None, &inputs) {
         Ok((form, options)) => Ok(FeedForm::Readings {
             setup: ReadingSetup::new(form, options),
         }),

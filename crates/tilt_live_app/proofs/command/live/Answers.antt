@@ -39,3 +39,12 @@ returns-clause-is g c =
 
 pub obey_in-requires-clause-chosen : goal.obey_in-requires-clause-chosen
 obey_in-requires-clause-chosen g c = ap (option_map choice_value) c.in-Some-folder.is
+
+pub obey_in-requires-clause-table_lent : goal.obey_in-requires-clause-table_lent
+obey_in-requires-clause-table_lent g c = λ zone named. c.requires.table_lent (command_value c.in-Ok.command) zone c.in-Ok.ensures.is named
+
+pub obey-requires-clause-table_lent : goal.obey-requires-clause-table_lent
+obey-requires-clause-table_lent g c = λ zone named. c.requires.table_lent (command_value c.in-Ok.command) zone c.in-Ok.ensures.is named
+
+pub obey_by_keys-requires-clause-table_lent : goal.obey_by_keys-requires-clause-table_lent
+obey_by_keys-requires-clause-table_lent g c = λ zone named. c.requires.table_lent (command_value c.in-Ok.command) zone c.in-Ok.ensures.is named
