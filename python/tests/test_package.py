@@ -202,6 +202,8 @@ def test_the_completion_has_the_options_of_tilt_live(root):
         "--tick",
         "--origin",
         "--unit",
+        "--zone",
+        "--fold",
         "--scale",
         "--event",
         "--events",
